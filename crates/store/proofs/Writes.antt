@@ -11,14 +11,14 @@ use Rattle.std.specs.declared.option.Option.{Option}
 use Rattle.std.specs.declared.option.Option.the-variants.{Some, None}
 use Rattle.store.specs.declared.Layer.the-variants.{Store}
 use Rattle.store.specs.Refusals.{Answer, no-record, held, stale, no-room}
-use Rattle.store.specs.Refusals.Answer.{gives, refused}
+use Rattle.store.specs.Refusals.Answer.{gives, refuses}
 use Rattle.store.specs.Meaning.{Rules, State, Console, holds, anyHolds, versionsIn, pendingIn, newestAt, consoleAt, openOr, liveAt, onward, answered, firstWrite, writeAnswer, writeOf, wrote, withConsole}
 
 module _ {E : Type 0} (kind : Rules) (s : State E) (k r : ℕ) (e : E) (c : Console E) (near : k < 16) (is : consoleAt s k ≡ Some c) (within : r < length (s .chains)) where
   write-tests : writeAnswer kind s k r ≡ cond (holds (c .pending) r) (gives (newestAt s r .number)) (firstWrite kind s c r)
   write-tests =
       let live : liveAt (s .consoles) k ≡ gives c = cond-true _ _ _ (lt-ltb _ _ near) ∙ ap openOr is in
-      ap (λ w. onward w (λ d. cond (ltb r (length (s .chains))) (cond (holds (d .pending) r) (gives (newestAt s r .number)) (firstWrite kind s d r)) (refused (no-record Store)))) live
+      ap (λ w. onward w (λ d. cond (ltb r (length (s .chains))) (cond (holds (d .pending) r) (gives (newestAt s r .number)) (firstWrite kind s d r)) (refuses (no-record Store)))) live
       ∙ cond-true _ _ _ (lt-ltb _ _ within)
 
   end : (x : Answer ℕ) → writeAnswer kind s k r ≡ x → writeOf kind s k r e ≡ answered s x (λ _. withConsole s k (wrote (consoleAt s k) r e))
@@ -27,14 +27,14 @@ module _ {E : Type 0} (kind : Rules) (s : State E) (k r : ℕ) (e : E) (c : Cons
   pub write-again : holds (c .pending) r ≡ true → writeOf kind s k r e ≡ (gives (newestAt s r .number), withConsole s k (wrote (consoleAt s k) r e))
   write-again own = end _ (write-tests ∙ cond-true _ _ _ own)
 
-  pub write-held : holds (c .pending) r ≡ false → anyHolds (s .consoles) r ≡ true → writeOf kind s k r e ≡ (refused held, s)
+  pub write-held : holds (c .pending) r ≡ false → anyHolds (s .consoles) r ≡ true → writeOf kind s k r e ≡ (refuses held, s)
   write-held own any = end _ (write-tests ∙ cond-false _ _ _ own ∙ cond-true _ _ _ any)
 
-  pub write-stale : holds (c .pending) r ≡ false → anyHolds (s .consoles) r ≡ false → kind .admits (newestAt s r .stamp) (c .began) ≡ false → writeOf kind s k r e ≡ (refused stale, s)
+  pub write-stale : holds (c .pending) r ≡ false → anyHolds (s .consoles) r ≡ false → kind .admits (newestAt s r .stamp) (c .began) ≡ false → writeOf kind s k r e ≡ (refuses stale, s)
   write-stale own any old = end _ (write-tests ∙ cond-false _ _ _ own ∙ cond-false _ _ _ any ∙ cond-false _ _ _ old)
 
   pub write-full : holds (c .pending) r ≡ false → anyHolds (s .consoles) r ≡ false → kind .admits (newestAt s r .stamp) (c .began) ≡ true → s .room ≤ versionsIn (s .chains) + pendingIn (s .consoles)
-      → writeOf kind s k r e ≡ (refused no-room, s)
+      → writeOf kind s k r e ≡ (refuses no-room, s)
   write-full own any new full = end _ (write-tests ∙ cond-false _ _ _ own ∙ cond-false _ _ _ any ∙ cond-true _ _ _ new ∙ cond-false _ _ _ (le-ltb _ _ full))
 
   pub write-new : holds (c .pending) r ≡ false → anyHolds (s .consoles) r ≡ false → kind .admits (newestAt s r .stamp) (c .began) ≡ true → versionsIn (s .chains) + pendingIn (s .consoles) < s .room

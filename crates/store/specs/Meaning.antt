@@ -18,7 +18,7 @@ use Rattle.store.specs.declared.OpenFault.{OpenFault}
 use Rattle.store.specs.declared.Refusal.{Refusal}
 use Rattle.store.specs.declared.Code.{Code}
 use Rattle.store.specs.Refusals.{Answer, answerBy, codeOf, openCode, bad-table, no-console, no-record, shut, already-open, held, stale, no-room, day-full}
-use Rattle.store.specs.Refusals.Answer.{gives, refused}
+use Rattle.store.specs.Refusals.Answer.{gives, refuses}
 
 -- the two rules that a kind of store states
 pub record Rules : Type 0 where
@@ -44,7 +44,7 @@ pub record State (E : Type 0) : Type 0 where
 
 -- a call that goes on where a check gives something
 abbrev pub onward : {A B : Type 0} → Answer A → (A → Answer B) → Answer B
-onward (refused c) f = refused c
+onward (refuses c) f = refuses c
 onward (gives a) f = f a
 
 -- what a read shows: the console's own pending entry, or a version
@@ -110,23 +110,23 @@ module _ {E : Type 0} where
 
   -- the console k, which must be one of sixteen and open
   abbrev pub openOr : Option (Console E) → Answer (Console E)
-  openOr None = refused (shut Store)
+  openOr None = refuses (shut Store)
   openOr (Some c) = gives c
 
   abbrev pub liveAt : List (Option (Console E)) → ℕ → Answer (Console E)
-  liveAt cs k = cond (ltb k 16) (openOr (getD cs k None)) (refused (no-console Store))
+  liveAt cs k = cond (ltb k 16) (openOr (getD cs k None)) (refuses (no-console Store))
 
   abbrev pub atOpen : {A : Type 0} → State E → ℕ → (Console E → Answer A) → Answer A
   atOpen s k f = onward (liveAt (s .consoles) k) f
 
   -- the state after a call: changed where it gives something, else as it was
   abbrev pub answered : {A : Type 0} → State E → Answer A → (A → State E) → Answer A × State E
-  answered s (refused c) f = (refused c, s)
+  answered s (refuses c) f = (refuses c, s)
   answered s (gives a) f = (gives a, f a)
 
   -- begin
   abbrev pub beginAnswer : State E → ℕ → Answer ℕ
-  beginAnswer s k = cond (ltb k 16) (elim (consoleAt s k) [ None ↦ gives (s .clock) | Some c ↦ refused (already-open Store) ]) (refused (no-console Store))
+  beginAnswer s k = cond (ltb k 16) (elim (consoleAt s k) [ None ↦ gives (s .clock) | Some c ↦ refuses (already-open Store) ]) (refuses (no-console Store))
 
   abbrev pub beginOf : State E → ℕ → Answer ℕ × State E
   beginOf s k = answered s (beginAnswer s k) (λ b. withConsole s k (Some (record { began = b; pending = [] })))
@@ -139,7 +139,7 @@ module _ {E : Type 0} where
   ]
 
   abbrev pub readOf : Rules → State E → ℕ → ℕ → Answer (Shown E)
-  readOf rules s k r = atOpen s k (λ c. cond (ltb r (length (s .chains))) (gives (shownAt rules s c r)) (refused (no-record Store)))
+  readOf rules s k r = atOpen s k (λ c. cond (ltb r (length (s .chains))) (gives (shownAt rules s c r)) (refuses (no-record Store)))
 
   -- what each case of a read's answer stands for
   abbrev pub shownBy : Seen E → Shown E
@@ -156,16 +156,16 @@ module _ {E : Type 0} where
 
   abbrev pub firstWrite : Rules → State E → Console E → ℕ → Answer ℕ
   firstWrite rules s c r =
-      cond (anyHolds (s .consoles) r) (refused held)
+      cond (anyHolds (s .consoles) r) (refuses held)
       (cond (rules .admits (newestAt s r .stamp) (c .began))
-      (cond (ltb (versionsIn (s .chains) + pendingIn (s .consoles)) (s .room)) (gives (newestAt s r .number)) (refused no-room))
-      (refused stale))
+      (cond (ltb (versionsIn (s .chains) + pendingIn (s .consoles)) (s .room)) (gives (newestAt s r .number)) (refuses no-room))
+      (refuses stale))
 
   abbrev pub writeAnswer : Rules → State E → ℕ → ℕ → Answer ℕ
   writeAnswer rules s k r =
       atOpen s k (λ c. cond (ltb r (length (s .chains)))
       (cond (holds (c .pending) r) (gives (newestAt s r .number)) (firstWrite rules s c r))
-      (refused (no-record Store)))
+      (refuses (no-record Store)))
 
   abbrev pub wrote : Option (Console E) → ℕ → E → Option (Console E)
   wrote None r e = None
@@ -194,7 +194,7 @@ module _ {E : Type 0} where
   }
 
   abbrev pub commitAnswer : State E → ℕ → Answer ℕ
-  commitAnswer s k = atOpen s k (λ _. cond (ltb (s .clock) 4000) (gives (s .clock + 1)) (refused (day-full Store)))
+  commitAnswer s k = atOpen s k (λ _. cond (ltb (s .clock) 4000) (gives (s .clock + 1)) (refuses (day-full Store)))
 
   abbrev pub commitOf : State E → ℕ → Answer ℕ × State E
   commitOf s k = answered s (commitAnswer s k) (λ _. committed s k)

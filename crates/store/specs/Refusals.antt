@@ -64,12 +64,12 @@ openCode Memory = None
 -- what a call answers: what it was asked for, or a refusal
 pub data Answer (A : Type 0) : Type 0 where
   gives : A → Answer A
-  refused : Code → Answer A
+  refuses : Code → Answer A
 
 -- the answer that a result of the code stands for, its value by f and its refusal by g
 abbrev pub answerBy : {A B F : Type 0} → (A → B) → (F → Code) → Result A F → Answer B
 answerBy f g (Ok a) = gives (f a)
-answerBy f g (Err e) = refused (g e)
+answerBy f g (Err e) = refuses (g e)
 
 abbrev pub answerOf : {A : Type 0} → Result A Refusal → Answer A
 answerOf r = answerBy (λ a. a) codeOf r

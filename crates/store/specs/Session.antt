@@ -15,7 +15,7 @@ use Rattle.store.specs.declared.session.Session.{Session}
 use Rattle.store.specs.declared.session.Hold.{Hold}
 use Rattle.store.specs.Meaning.{Console, pendingList, anyHolds, liveAt}
 use Rattle.store.specs.Refusals.{codeOf}
-use Rattle.store.specs.Refusals.Answer.{refused}
+use Rattle.store.specs.Refusals.Answer.{refuses}
 
 abbrev pub holdAt : List Hold → ℕ → Hold
 holdAt holds r = getD holds r (record { console = 0; place = 0 })
@@ -62,7 +62,7 @@ module _ {E : Type 0} where
 
   -- what is known of a console that a call asks for
   abbrev pub Live : List (Option (Console E)) → ℕ → Result ℕ Refusal → Type 0
-  Live cs k (Err e) = liveAt cs k ≡ refused (codeOf e)
+  Live cs k (Err e) = liveAt cs k ≡ refuses (codeOf e)
   Live cs k (Ok b) = (k < 16) × (getD cs k None ≡ Some (record { began = b; pending = pendAt cs k }))
 
   -- an entry is pending at a record

@@ -4,7 +4,7 @@ use native.Mathlib.Omega.{arith}
 use mathlib.Core.Bool.{true, false}
 use lib.ListN.{length, set, getD}
 use Rattle.std.specs.declared.option.Option.the-variants.{Some, None}
-use Rattle.store.specs.Refusals.Answer.{gives, refused}
+use Rattle.store.specs.Refusals.Answer.{gives, refuses}
 use Rattle.store.specs.Meaning.{pendingIn, holds, newestAt, wrote, withConsole}
 use Rattle.store.specs.Session.{pendAt}
 use Rattle.store.specs.Sessions.{consolesOf}

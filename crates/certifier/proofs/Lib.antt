@@ -1,0 +1,5 @@
+mod Folds
+mod Links
+mod Overwrites
+mod Plays
+mod Steps
