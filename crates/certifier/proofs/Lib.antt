@@ -1,4 +1,5 @@
 mod Folds
+mod Goods
 mod Links
 mod Overwrites
 mod Plays

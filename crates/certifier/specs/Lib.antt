@@ -5,3 +5,6 @@ pub mod Links
 pub mod Rankings
 pub mod Meaning
 pub mod Logs
+pub mod History
+pub mod Law
+pub mod Striking
