@@ -1,10 +1,10 @@
--- The law over whole runs: rank, serial, marks. Everything is said of the history, and of the log that it leads to.
+-- The law over whole runs: rank, serial, marks, striking. Everything is said of the history, and of the log that it leads to.
 use mathlib.Core.Path.{_≡_}
 use mathlib.Core.List.{List, [], _∷_, map}
 use mathlib.Core.Logic.{_⊎_}
 use Prim.Native.Nat.{ℕ, _+_, _<_}
 use lib.ListN.{length, getD, set, replicate}
-use Rattle.store.specs.Meaning.{newestAt}
+use Rattle.store.specs.Meaning.{Rules, newestAt}
 use Rattle.certifier.specs.declared.Call.{Call}
 use Rattle.certifier.specs.declared.Call.the-variants.{Begin, Read, Write, Commit, Drop}
 use Rattle.certifier.specs.Marking.{markAt}
@@ -12,6 +12,7 @@ use Rattle.certifier.specs.Ranking.{joined}
 use Rattle.certifier.specs.Meaning.{LogState, Reply}
 use Rattle.certifier.specs.History.{Event, Act, Transaction, Summary, DependsBy, Before, inRank, markOf, verdict, advance, unused, summaryOf}
 use Rattle.certifier.specs.History.Act.{tookOwn, tookVersion, put}
+use Rattle.certifier.specs.Striking.{Struck}
 
 -- x is one of the list
 abbrev pub Has : {A : Type 0} → A → List A → Type 0
@@ -101,3 +102,10 @@ pub record Marked {E : Type 0} (size : ℕ) (s : LogState E) (h : List (Event E)
   pub marks : (v : ℕ) → v < summaryOf size h .next → markAt (s .marks) v ≡ markOf (summaryOf size h .done) v
   -- each commit was granted, or refused, as the history defines
   pub judged : Judged (unused size) h
+
+-- the law, of a log s that the history h led to from an opening with size records at the entry first, in room places
+pub record Lawful {E : Type 0} (rules : Rules) (size room : ℕ) (first : E) (s : LogState E) (h : List (Event E)) : Type 0 where
+  pub rank : Ranked s (summaryOf size h .done)
+  pub serial : Serial size first s (summaryOf size h .done)
+  pub marks : Marked size s h
+  pub striking : Struck rules size room first s h

@@ -1,10 +1,10 @@
 pub mod Refusals
 pub mod Marking
 pub mod Ranking
+pub mod Meaning
+pub mod History
+pub mod Striking
+pub mod Law
 pub mod Links
 pub mod Rankings
-pub mod Meaning
 pub mod Logs
-pub mod History
-pub mod Law
-pub mod Striking

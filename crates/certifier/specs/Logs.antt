@@ -25,6 +25,8 @@ use Rattle.certifier.specs.Refusals.{codeOf}
 use Rattle.certifier.specs.Marking.{Track}
 use Rattle.certifier.specs.Rankings.{ranksOf}
 use Rattle.certifier.specs.Meaning.{LogState, Reply, opened, answersOf, after}
+use Rattle.certifier.specs.History.{historyOf}
+use Rattle.certifier.specs.Law.{Lawful}
 use Rattle.certifier.specs.Meaning.Reply.{begun, own, saw, overwrites, granted, dropped, refused}
 
 abbrev pub fewOf : {T : Type 0} {N : ℕ} → Few T N → List T
@@ -90,10 +92,11 @@ abbrev pub OpensLog : {S E : Type 0} → (S → State E) → ℕ → ℕ → E �
 OpensLog state size room first (Ok log) = Range size room × (logState state log ≡ opened size room first)
 OpensLog state size room first (Err f) = Unopened size room (openCode f)
 
--- what a run answers: the answers and the end state are those of the meaning, from the opening on
+-- what a run answers: the answers and the end state are those of the meaning, from the opening on, and the law holds
 abbrev pub Runs : {S E : Type 0} → Rules → (S → State E) → ℕ → ℕ → E → List (Call E) → Result (Outcome S E) OpenFault → Type 0
 Runs rules state size room first calls (Ok run) =
     Range size room
     × (logState state (run .log) ≡ after rules (opened size room first) calls)
     × (repliesOf (vec-items (run .answers)) ≡ answersOf rules (opened size room first) calls)
+    × Lawful rules size room first (logState state (run .log)) (historyOf calls (repliesOf (vec-items (run .answers))))
 Runs rules state size room first calls (Err f) = Unopened size room (openCode f)

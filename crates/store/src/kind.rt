@@ -3,7 +3,8 @@ ghost use mathlib.Core.Path.{_≡_};
 ghost use mathlib.Core.Bool.{Bool, true};
 ghost use Prim.Native.Nat.{ℕ};
 ghost use Rattle.store.specs.Meaning.{Rules, Inside};
-ghost use Rattle.store.specs.Kinds.{Tested, newestRules};
+ghost use lib.Dec.{leb};
+ghost use Rattle.store.specs.Kinds.{Tested, newestRules, snapshotRules};
 
 /// A kind of store: its two rules. A read shows the last version whose stamp passes a test against the begin stamp.
 pub trait Kind: Drop {
@@ -39,5 +40,23 @@ pub impl Kind for Newest as NewestKind {
 
     fn admits(stamp: u16, began: u16) -> bool {
         true
+    }
+}
+
+/// The kind that shows the versions of the console's begin, and lets a write through only where none is newer.
+#[derive(Clone, Copy)]
+pub struct Snapshot;
+
+pub impl Kind for Snapshot as SnapshotKind {
+    ghost rules = { snapshotRules };
+
+    ghost test = { leb };
+
+    fn shows(stamp: u16, began: u16) -> bool {
+        stamp <= began
+    }
+
+    fn admits(stamp: u16, began: u16) -> bool {
+        stamp <= began
     }
 }
