@@ -2,23 +2,33 @@
 use mathlib.Core.Path.{_≡_, refl, sym, ap, _∙_, subst}
 use mathlib.Core.List.{List, [], _∷_, _++_, map}
 use mathlib.Core.Logic.{_⊎_, inl, inr}
-use mathlib.Core.Bool.{Bool, true, false, cond}
-use Prim.Native.Nat.{ℕ, _<_}
+use mathlib.Core.Bool.{Bool, true, false, cond, _||_, not}
+use Prim.Native.Nat.{ℕ, _≤_, _<_}
+use native.Mathlib.Omega.{arith}
 use lib.ListN.{length}
-use Rattle.std.proofs.shelf.Lists.{map-push}
-use Rattle.std.proofs.shelf.Tests.{cond-both, cond-true, cond-false, both-ways, cases-bool}
+use lib.Dec.{leb}
+use Rattle.std.proofs.shelf.Lists.{map-push, length-push}
+use Rattle.std.proofs.shelf.Tests.{cond-both, cond-true, cond-false, both-ways, leb-false, not-true}
 use Rattle.std.specs.declared.option.Option.{Option}
 use Rattle.std.specs.declared.option.Option.the-variants.{Some, None}
 use Rattle.store.specs.declared.Version.{Version}
 use Rattle.store.specs.declared.Pending.{Pending}
 use Rattle.store.specs.Meaning.{ownAt, replaced, holds}
 use Rattle.certifier.specs.declared.Over.{Over}
-use Rattle.certifier.specs.Marking.{Track, member, noteIn, noted}
+use Rattle.certifier.specs.Marking.{Track, member, noteIn, notes, noted}
 use Rattle.certifier.specs.History.{Act, Transaction, noteSome, gather, readBy, overwrittenBy, writtenBy, readIn, overwrittenIn, recordsIn}
 use Rattle.certifier.specs.History.Act.{tookOwn, tookVersion, put}
 use Rattle.certifier.specs.Law.{Has}
 use Rattle.certifier.proofs.Goods.{pendingAfter, chainOf, newestOf, Valid}
 use Rattle.certifier.proofs.Rows.{oversOf, recordsOf}
+
+-- one more version noted is the 64th at most
+note-few : (n : ℕ) (xs : List ℕ) → length xs ≤ 64 → (member n xs || not (leb 64 (length xs))) ≡ true → length (noteIn n xs) ≤ 64
+note-few n xs l = go (member n xs)
+  where
+    go : (b : Bool) → (b || not (leb 64 (length xs))) ≡ true → length (cond b xs (xs ++ (n ∷ []))) ≤ 64
+    go true e = l
+    go false e = omega (arith, length-push xs n, leb-false 64 (length xs) (not-true (leb 64 (length xs)) e))
 
 module _ {E : Type 0} where
   -- an open transaction after ts, as the store, the history and the certifier have it
@@ -28,6 +38,7 @@ module _ {E : Type 0} where
     pub records : recordsOf (t .writes) ≡ recordsIn acts
     pub pending : ps ≡ pendingAfter [] acts
     pub valid : Valid first size ts [] acts
+    pub few : (length (t .noted) ≤ 64) × (length (t .writes) ≤ 16)
 
   gather-push : (f : Act E → Option ℕ) (ns : List ℕ) (acts : List (Act E)) (a : Act E) → gather f ns (acts ++ (a ∷ [])) ≡ noteSome (gather f ns acts) (f a)
   gather-push f ns [] a = refl
@@ -58,28 +69,31 @@ module _ {E : Type 0} where
       records = w .records ∙ sym (gather-push writtenBy [] acts (tookOwn r e));
       pending = w .pending ∙ sym (pending-push [] acts (tookOwn r e));
       valid = valid-push first size ts [] acts (tookOwn r e) (w .valid) (l, at-pending (λ qs. ownAt qs r ≡ Some e) h, tt);
+      few = w .few;
     }
 
-    pub version-row : (r : ℕ) (v : Version E) → r < size → ownAt ps r ≡ None → Has v (chainOf first ts r)
+    pub version-row : (r : ℕ) (v : Version E) → r < size → ownAt ps r ≡ None → Has v (chainOf first ts r) → notes t (v .number) ≡ true
         → Row first size ts ps (acts ++ (tookVersion r v ∷ [])) (noted t (v .number))
-    version-row r v l h k = record {
+    version-row r v l h k room = record {
       noted = ap (noteIn (v .number)) (w .noted) ∙ sym (gather-push readBy [] acts (tookVersion r v));
       overwritten = w .overwritten ∙ sym (gather-push overwrittenBy [] acts (tookVersion r v));
       records = w .records ∙ sym (gather-push writtenBy [] acts (tookVersion r v));
       pending = w .pending ∙ sym (pending-push [] acts (tookVersion r v));
       valid = valid-push first size ts [] acts (tookVersion r v) (w .valid) (l, at-pending (λ qs. ownAt qs r ≡ None) h, k, tt);
+      few = (note-few (v .number) (t .noted) (w .few .0) room, w .few .1);
     }
 
     -- a write to record r, which overwrites version n: n is among the overwritten exactly where r is among the written
     module _ (r n : ℕ) (e : E) (l : r < size) (is : n ≡ newestOf first (chainOf first ts r) .number)
         (again : member r (recordsIn acts) ≡ true → member n (overwrittenIn acts) ≡ true)
-        (anew : member n (overwrittenIn acts) ≡ true → member r (recordsIn acts) ≡ true) where
+        (anew : member n (overwrittenIn acts) ≡ true → member r (recordsIn acts) ≡ true)
+        (room : member r (recordsOf (t .writes)) ≡ false → leb 16 (length (t .writes)) ≡ false) where
       abbrev writes : List Over
       writes = cond (member r (recordsOf (t .writes))) (t .writes) (t .writes ++ (record { at = r; version = n } ∷ []))
 
-      not-true : (b : Bool) → (b ≡ true → ⊥) → b ≡ false
-      not-true true k = absurd (k refl)
-      not-true false k = refl
+      not-held : (b : Bool) → (b ≡ true → ⊥) → b ≡ false
+      not-held true k = absurd (k refl)
+      not-held false k = refl
 
       abbrev Both : List Over → Type 0
       Both ws = (recordsOf ws ≡ noteIn r (recordsOf (t .writes))) × (oversOf ws ≡ noteIn n (oversOf (t .writes)))
@@ -92,7 +106,7 @@ module _ {E : Type 0} where
             sym (cond-true (member n (oversOf (t .writes))) _ _ (ap (member n) (w .overwritten) ∙ again (sym (ap (member r) (w .records)) ∙ a))),
           ))
           (λ a.
-          let free : member n (oversOf (t .writes)) ≡ false = not-true _ (λ k. both-ways (member r (recordsOf (t .writes))) a (ap (member r) (w .records) ∙ anew (sym (ap (member n) (w .overwritten)) ∙ k))) in (
+          let free : member n (oversOf (t .writes)) ≡ false = not-held _ (λ k. both-ways (member r (recordsOf (t .writes))) a (ap (member r) (w .records) ∙ anew (sym (ap (member n) (w .overwritten)) ∙ k))) in (
             map-push (λ (x : Over). x .at) (t .writes) (record { at = r; version = n }) ∙ sym (cond-false (member r (recordsOf (t .writes))) _ _ a),
             map-push (λ (x : Over). x .version) (t .writes) (record { at = r; version = n }) ∙ sym (cond-false (member n (oversOf (t .writes))) _ _ free),
           ))
@@ -104,4 +118,9 @@ module _ {E : Type 0} where
         records = both .0 ∙ ap (noteIn r) (w .records) ∙ sym (gather-push writtenBy [] acts (put r e n));
         pending = ap (λ qs. replaced qs r e) (w .pending) ∙ sym (pending-push [] acts (put r e n));
         valid = valid-push first size ts [] acts (put r e n) (w .valid) (l, is, tt);
+        few = (
+          w .few .0,
+          cond-both (member r (recordsOf (t .writes))) (t .writes) (t .writes ++ (record { at = r; version = n } ∷ [])) (λ (ws : List Over). length ws ≤ 16) (λ _. w .few .1)
+              (λ a. omega (arith, length-push (t .writes) (record { at = r; version = n }), leb-false 16 (length (t .writes)) (room a))),
+        );
       }

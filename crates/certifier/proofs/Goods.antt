@@ -2,7 +2,7 @@
 use mathlib.Core.Path.{_≡_}
 use mathlib.Core.List.{List, [], _∷_, _++_}
 use mathlib.Core.Bool.{cond}
-use Prim.Native.Nat.{ℕ, _+_, _-_, _<_}
+use Prim.Native.Nat.{ℕ, _+_, _-_, _≤_, _<_}
 use lib.ListN.{length, getD}
 use lib.Dec.{eqb}
 use Rattle.std.specs.declared.option.Option.{Option}
@@ -10,7 +10,7 @@ use Rattle.std.specs.declared.option.Option.the-variants.{Some, None}
 use Rattle.store.specs.declared.Version.{Version}
 use Rattle.store.specs.declared.Pending.{Pending}
 use Rattle.store.specs.Meaning.{ownAt, replaced, origin}
-use Rattle.certifier.specs.History.{Act, Transaction, grantOf, recordsIn}
+use Rattle.certifier.specs.History.{Act, Transaction, grantOf, readIn, overwrittenIn, recordsIn}
 use Rattle.certifier.specs.History.Act.{tookOwn, tookVersion, put}
 use Rattle.certifier.specs.Law.{Has}
 
@@ -55,6 +55,9 @@ module _ {E : Type 0} where
     pub safe : t .grant .high < t .grant .low
     pub number : t .first ≡ nextOf size ts
     pub valid : Valid first size ts [] (t .acts)
+    pub near : t .console < 16
+    pub few : (length (readIn (t .acts)) ≤ 64) × (length (overwrittenIn (t .acts)) ≤ 16)
+    pub even : length (overwrittenIn (t .acts)) ≡ length (recordsIn (t .acts))
 
   abbrev pub Good : E → ℕ → List (Transaction E) → Type 0
   Good first size [] = Unit {0}

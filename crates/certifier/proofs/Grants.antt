@@ -44,7 +44,7 @@ mark-new b c false h o e = let P : ℕ → Option ℕ → Mark = λ x y. record 
 
 module _ {E : Type 0} where
   abbrev asIf : List (Act E) → Transaction E
-  asIf acts = record { acts = acts; first = 0; grant = record { stamp = 0; low = 0; high = 0 } }
+  asIf acts = record { console = 0; acts = acts; first = 0; grant = record { stamp = 0; low = 0; high = 0 } }
 
   -- stamps and high marks are at most the number of commits
   stamp-bound : (f : E) (size : ℕ) (ts : List (Transaction E)) → Good f size ts → (v : ℕ) → stampOf ts v ≤ length ts
@@ -206,13 +206,13 @@ module _ {E : Type 0} where
     ranks = ranked (s .ranks) (g .low);
   }
 
-  abbrev committedAs : Summary E → List (Act E) → Grant → Transaction E
-  committedAs m acts g = record { acts = acts; first = m .next; grant = g }
+  abbrev committedAs : ℕ → Summary E → List (Act E) → Grant → Transaction E
+  committedAs k m acts g = record { console = k; acts = acts; first = m .next; grant = g }
 
-  abbrev pub grownSummary : Summary E → List (Act E) → Grant → Summary E
-  grownSummary m acts g = record { next = m .next + length (recordsIn acts); current = m .current; done = committedAs m acts g ∷ m .done }
+  abbrev pub grownSummary : ℕ → Summary E → List (Act E) → Grant → Summary E
+  grownSummary k m acts g = record { next = m .next + length (recordsIn acts); current = m .current; done = committedAs k m acts g ∷ m .done }
 
-  module _ {f : E} {size : ℕ} {m : Summary E} {s : LogState E} (h : Tied f size m s) (ps : List (Pending E)) (acts : List (Act E)) (t : Track) (g : Grant)
+  module _ {f : E} {size : ℕ} {m : Summary E} {s : LogState E} (h : Tied f size m s) (k : ℕ) (near : k < 16) (ps : List (Pending E)) (acts : List (Act E)) (t : Track) (g : Grant)
       (w : Row f size (m .done) ps acts t) (e : g ≡ grantOf (m .done) acts) (safe : g .high < g .low) (day : length (m .done) < 4000)
       (space : s .store .next + (pendingIn (s .store .consoles) + length ps) ≤ s .store .room)
       (free : (q j : ℕ) → holds ps q ≡ true → consoleHolds (consoleAt (s .store) j) q ≡ true → ⊥) where
@@ -223,16 +223,19 @@ module _ {E : Type 0} where
     n = nextOf size (m .done)
 
     abbrev T : Transaction E
-    T = committedAs m acts g
-
-    fits : Fits f size T ts
-    fits = record { grant = e; safe = safe; number = h .next; valid = w .valid }
-
-    count-pending : length ps ≡ length (recordsIn acts)
-    count-pending = ap length (w .pending) ∙ pending-count acts
+    T = committedAs k m acts g
 
     count-writes : length (t .writes) ≡ length (recordsIn acts)
     count-writes = sym (length-map (t .writes) (λ (x : Over). x .at)) ∙ ap length (w .records)
+
+    count-overs : length (t .writes) ≡ length (overwrittenIn acts)
+    count-overs = sym (length-map (t .writes) (λ (x : Over). x .version)) ∙ ap length (w .overwritten)
+
+    fits : Fits f size T ts
+    fits = record { grant = e; safe = safe; number = h .next; valid = w .valid; near = near; few = (let n = ap length (w .noted) in omega (arith, w .few), omega (arith, w .few, count-overs)); even = sym count-overs ∙ count-writes }
+
+    count-pending : length ps ≡ length (recordsIn acts)
+    count-pending = ap length (w .pending) ∙ pending-count acts
 
     stamp : g .stamp ≡ length ts + 1
     stamp = ap (λ q. q .stamp) e
@@ -294,6 +297,7 @@ module _ {E : Type 0} where
       pending = x .pending;
       valid = valid-grow f size T ts [] others
           (λ q a b. clear q (ap (λ (qs : List (Pending E)). holds qs q) (w .pending) ∙ b) (ap (λ (qs : List (Pending E)). holds qs q) (x .pending) ∙ a)) (x .valid);
+      few = x .few;
     }
 
     match-grown : (o : Option (Console E)) (p : Option (List (Act E))) (u : Track) → ((q : ℕ) → holds ps q ≡ true → consoleHolds o q ≡ true → ⊥) → Matches f size ts o p u → Matches f size (T ∷ ts) o p u
@@ -302,7 +306,7 @@ module _ {E : Type 0} where
     match-grown (Some c) None u clear x = x
     match-grown (Some c) (Some others) u clear x = row-grown (c .pending) others u clear x
 
-    pub grow : Tied f size (grownSummary m acts g) (grownLog s ps t g)
+    pub grow : Tied f size (grownSummary k m acts g) (grownLog s ps t g)
     grow = record {
       good = (fits, h .good);
       next = ap (λ x. x + length (recordsIn acts)) (h .next);
@@ -321,6 +325,6 @@ module _ {E : Type 0} where
       consoles = h .consoles;
       tracks = h .tracks;
       current = h .current;
-      rows = λ k. match-grown (consoleAt (s .store) k) (currentAt m k) (trackAt s k) (λ q a b. free q k a b) (h .rows k);
+      rows = λ j. match-grown (consoleAt (s .store) j) (currentAt m j) (trackAt s j) (λ q a b. free q j a b) (h .rows j);
       apart = h .apart;
     }

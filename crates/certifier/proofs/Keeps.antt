@@ -16,7 +16,7 @@ use Rattle.store.specs.declared.Version.{Version}
 use Rattle.store.specs.Meaning.{Rules, Inside, Console, holds, pendingList, pendingIn, pendingAt, versionsIn, anyHolds, consoleAt, chainAt, newestAt, stampsOf, replaced, origin, ownAt}
 use Rattle.store.proofs.Pendings.{pending-set, replaced-push, none-any}
 use Rattle.certifier.specs.declared.Grant.{Grant}
-use Rattle.certifier.specs.Marking.{Track, noTrack, member, noted, written}
+use Rattle.certifier.specs.Marking.{Track, noTrack, member, notes, noted, written}
 use Rattle.certifier.specs.Meaning.{LogState, trackAt, full}
 use Rattle.certifier.specs.History.{Act, Transaction, Summary, readIn, overwrittenIn, recordsIn, currentAt, actsAt, withCurrent}
 use Rattle.certifier.specs.History.Act.{tookOwn, tookVersion, put}
@@ -38,7 +38,7 @@ not-both false b e f = refl
 module _ {E : Type 0} where
   -- acts as those of a transaction
   abbrev asIf : List (Act E) → Transaction E
-  asIf acts = record { acts = acts; first = 0; grant = record { stamp = 0; low = 0; high = 0 } }
+  asIf acts = record { console = 0; acts = acts; first = 0; grant = record { stamp = 0; low = 0; high = 0 } }
 
   -- a version of a chain that the read rule shows is in it
   chain-root : (f : E) (ts : List (Transaction E)) (r : ℕ) → (rest : List (Version E)) × (chainOf f ts r ≡ record { number = r; stamp = 0; entry = f } ∷ rest)
@@ -87,7 +87,7 @@ module _ {E : Type 0} where
     pub begun-kept : Tied f size (withCurrent m k (Some [])) (putAt s k (Some (record { began = s .store .clock; pending = [] })) noTrack)
     begun-kept =
         put-at (Some (record { began = s .store .clock; pending = [] })) noTrack (Some [])
-        (record { noted = refl; overwritten = refl; records = refl; pending = refl; valid = tt })
+        (record { noted = refl; overwritten = refl; records = refl; pending = refl; valid = tt; few = (omega arith, omega arith) })
         (λ q j ne a b. both-ways false refl a)
         (let e = pending-at (Some (record { began = s .store .clock; pending = [] })) in omega (arith, h .room, e))
 
@@ -117,14 +117,14 @@ module _ {E : Type 0} where
       pub own-kept : (r : ℕ) (e : E) → r < size → ownAt (o .pending) r ≡ Some e → Tied f size (withCurrent m k (Some (actsAt m k ++ (tookOwn r e ∷ [])))) s
       own-kept r e l q = go-on (actsAt m k ++ (tookOwn r e ∷ [])) (s .tracks) (h .tracks) (λ j ne. refl) (own-row f size (m .done) (o .pending) (actsAt m k) (trackAt s k) row r e l q)
 
-      pub version-kept : (r : ℕ) (v : Version E) → r < size → ownAt (o .pending) r ≡ None → Has v (chainOf f (m .done) r)
+      pub version-kept : (r : ℕ) (v : Version E) → r < size → ownAt (o .pending) r ≡ None → Has v (chainOf f (m .done) r) → notes (trackAt s k) (v .number) ≡ true
           → Tied f size (withCurrent m k (Some (actsAt m k ++ (tookVersion r v ∷ [])))) (inside s (s .store .consoles) (set (s .tracks) k (noted (trackAt s k) (v .number))))
-      version-kept r v l q i =
+      version-kept r v l q i notes′ =
           let P : Track → Type 0 = λ t. Row f size (m .done) (o .pending) (actsAt m k ++ (tookVersion r v ∷ [])) t in
           go-on (actsAt m k ++ (tookVersion r v ∷ [])) (set (s .tracks) k (noted (trackAt s k) (v .number)))
           (length-set (s .tracks) k _ ∙ h .tracks)
           (λ j ne. getD-set-other (s .tracks) k j _ noTrack ne)
-          (subst P (sym (getD-set-same (s .tracks) k _ noTrack (omega (arith, h .tracks)))) (version-row f size (m .done) (o .pending) (actsAt m k) (trackAt s k) row r v l q i))
+          (subst P (sym (getD-set-same (s .tracks) k _ noTrack (omega (arith, h .tracks)))) (version-row f size (m .done) (o .pending) (actsAt m k) (trackAt s k) row r v l q i notes′))
 
       -- a write to record r, which overwrites its newest version
       module _ (rules : Rules) (r : ℕ) (e : E) (l : r < size) (space : full s k r ≡ false) (lets : Lets rules s o r) where
@@ -188,5 +188,5 @@ module _ {E : Type 0} where
             let old = ap (λ (c : Option (Console E)). length (pendingList c)) open′ in
             subst P (sym (written-is (trackAt s k) r n track-room))
             (put-at (Some (record { began = o .began; pending = replaced (o .pending) r e })) _ (Some (actsAt m k ++ (put r e n ∷ [])))
-            (write-row f size (m .done) (o .pending) (actsAt m k) (trackAt s k) row r n e l newest again anew) free
+            (write-row f size (m .done) (o .pending) (actsAt m k) (trackAt s k) row r n e l newest again anew track-room) free
             (omega (arith, sum, old, long lets)))

@@ -1,7 +1,8 @@
 -- The law, of every run.
-use mathlib.Core.Path.{_≡_, refl, sym, ap, _∙_, subst}
-use mathlib.Core.List.{List, []}
-use Prim.Native.Nat.{ℕ, _-_, _<_}
+use mathlib.Core.Path.{_≡_, refl, sym, ap, ap₂, _∙_, subst}
+use mathlib.Core.List.{List, [], _∷_}
+use mathlib.Core.Logic.{inl}
+use Prim.Native.Nat.{ℕ, _+_, _-_, _<_}
 use native.Mathlib.Omega.{arith}
 use lib.ListN.{length, getD}
 use Rattle.store.specs.declared.Version.{Version}
@@ -9,10 +10,11 @@ use Rattle.store.specs.Meaning.{Rules, Inside, Range, chainAt, origin, newestAt
 use Rattle.certifier.specs.declared.Call.{Call}
 use Rattle.certifier.specs.Ranking.{joined}
 use Rattle.certifier.specs.Meaning.{LogState, Reply, answersOf, after, opened}
-use Rattle.certifier.specs.History.{Event, Summary, historyOf, unused, summaryOf}
-use Rattle.certifier.specs.Law.{Ranked, Serial, Marked, Judged, Lawful}
-use Rattle.certifier.proofs.Goods.{chainOf, newestOf}
-use Rattle.certifier.proofs.Forward.{forward, acyclic, stamps, total, sorted}
+use Rattle.certifier.specs.History.{Event, Transaction, Summary, historyOf, unused, summaryOf}
+use Rattle.certifier.specs.Law.{Ranked, Serial, Marked, Judged, madeIn, AllInRange, Lawful}
+use Rattle.certifier.proofs.Goods.{chainOf, newestOf, nextOf, Good}
+use Rattle.certifier.proofs.Chains.{read-below, overwritten-below}
+use Rattle.certifier.proofs.Forward.{forward, acyclic, stamps, total, sorted, low-stamp}
 use Rattle.certifier.proofs.Serials.{replays, ends}
 use Rattle.certifier.proofs.Orders.{counted, order}
 use Rattle.certifier.proofs.Ties.{Tied}
@@ -40,6 +42,26 @@ module _ {E : Type 0} where
     serial : Serial size first s (m .done)
     serial = record { reads = replays first size (m .done) (h .good); ends = λ r l. ends first size (m .done) (h .good) r l ∙ newest r l }
 
+  -- what a day file keeps of each commit is in its range
+  made-is : (first : E) (size : ℕ) (done : List (Transaction E)) → Good first size done → madeIn size done ≡ nextOf size done
+  made-is first size [] g = refl
+  made-is first size (t ∷ ts) g = ap₂ _+_ (made-is first size ts (g .1)) (g .0 .even)
+
+  in-range : (first : E) (size : ℕ) (done : List (Transaction E)) → Good first size done → AllInRange size done
+  in-range first size [] g = tt
+  in-range first size (t ∷ ts) g =
+      let made = made-is first size ts (g .1) in (
+        record {
+          console = g .0 .near;
+          reads = g .0 .few .0;
+          writes = g .0 .few .1;
+          low = (let s = g .0 .safe in omega arith, low-stamp first size (t ∷ ts) g t (inl refl));
+          read = λ v a. omega (arith, made, read-below (g .0) (g .1) v a);
+          overwritten = λ v a. omega (arith, made, overwritten-below (g .0) (g .1) v a);
+        },
+        in-range first size ts (g .1),
+      )
+
   marks : {first : E} {size : ℕ} {s : LogState E} (es : List (Event E)) → Tied first size (summaryOf size es) s → Judged (unused size) es → Marked size s es
   marks es h j = record { counted = h .counted ∙ sym (h .next); marks = λ v l. h .marks v (omega (arith, h .next)); judged = j }
 
@@ -52,6 +74,7 @@ module _ {E : Type 0} where
         serial = serial (w .0);
         marks = marks (historyOf cs (answersOf rules (opened size room first) cs)) (w .0) (w .1);
         striking = struck rules size room first cs;
+        entries = in-range first size (summaryOf size (historyOf cs (answersOf rules (opened size room first) cs)) .done) (w .0 .good);
       }
 
   -- the same of what a run answered and left

@@ -55,7 +55,7 @@ module _ {E : Type 0} where
     commit-kept k o a d safe =
         let e = a .console in
         let sum = pending-set (s .store .consoles) k None (omega (arith, h .consoles, a .near)) in
-        grow (shut-kept h k (a .near)) (pendingAt (s .store) k) (actsAt m k) (trackAt s k) (grantAt s k) (pending-row k o e) (grant-is k o e) safe
+        grow (shut-kept h k (a .near)) k (a .near) (pendingAt (s .store) k) (actsAt m k) (trackAt s k) (grantAt s k) (pending-row k o e) (grant-is k o e) safe
         (omega (arith, h .clock, d)) (omega (arith, sum, h .room)) free
       where
         free : (q j : ℕ) → holds (pendingAt (s .store) k) q ≡ true → consoleHolds (getD (set (s .store .consoles) k None) j None) q ≡ true → ⊥
@@ -75,7 +75,7 @@ module _ {E : Type 0} where
     step-kept rules law c x t (owns k r o e a l q) = own-kept h k (a .near) o (a .console) r e (omega (arith, h .records, l)) q
     step-kept rules law c x t (sees k r o a l q n) =
         let inside : r < size = omega (arith, h .records, l) in
-        version-kept h k (a .near) o (a .console) r (shownTo rules s o r) inside q (seen k r o inside)
+        version-kept h k (a .near) o (a .console) r (shownTo rules s o r) inside q (seen k r o inside) n
       where
         seen : (k r : ℕ) (o : Console E) → r < size → Has (shownTo rules s o r) (chainOf f (m .done) r)
         seen k r o i =

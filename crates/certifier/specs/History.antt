@@ -33,9 +33,10 @@ pub data Act (E : Type 0) : Type 0 where
   tookVersion : ℕ → Version E → Act E
   put : ℕ → E → ℕ → Act E
 
--- a committed transaction: its accepted reads and writes in their own sequence, the number of the first version that its
--- commit added, and what its commit answered
+-- a committed transaction: its console, its accepted reads and writes in their own sequence, the number of the first
+-- version that its commit added, and what its commit answered
 pub record Transaction (E : Type 0) : Type 0 where
+  pub console : ℕ
   pub acts : List (Act E)
   pub first : ℕ
   pub grant : Grant
@@ -137,7 +138,7 @@ module _ {E : Type 0} where
   finished m k g = record {
     next = m .next + length (recordsIn (actsAt m k));
     current = set (m .current) k None;
-    done = record { acts = actsAt m k; first = m .next; grant = g } ∷ m .done;
+    done = record { console = k; acts = actsAt m k; first = m .next; grant = g } ∷ m .done;
   }
 
   -- a refusal alters nothing, but that UNSAFE ends the transaction

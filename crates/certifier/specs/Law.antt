@@ -2,7 +2,7 @@
 use mathlib.Core.Path.{_≡_}
 use mathlib.Core.List.{List, [], _∷_, map}
 use mathlib.Core.Logic.{_⊎_}
-use Prim.Native.Nat.{ℕ, _+_, _<_}
+use Prim.Native.Nat.{ℕ, _+_, _≤_, _<_}
 use lib.ListN.{length, getD, set, replicate}
 use Rattle.store.specs.Meaning.{Rules, newestAt}
 use Rattle.certifier.specs.declared.Call.{Call}
@@ -10,7 +10,7 @@ use Rattle.certifier.specs.declared.Call.the-variants.{Begin, Read, Write, Com
 use Rattle.certifier.specs.Marking.{markAt}
 use Rattle.certifier.specs.Ranking.{joined}
 use Rattle.certifier.specs.Meaning.{LogState, Reply}
-use Rattle.certifier.specs.History.{Event, Act, Transaction, Summary, DependsBy, Before, inRank, markOf, verdict, advance, unused, summaryOf}
+use Rattle.certifier.specs.History.{Event, Act, Transaction, Summary, readIn, overwrittenIn, HasRead, HasOverwritten, DependsBy, Before, inRank, markOf, verdict, advance, unused, summaryOf}
 use Rattle.certifier.specs.History.Act.{tookOwn, tookVersion, put}
 use Rattle.certifier.specs.Striking.{Struck}
 
@@ -70,6 +70,25 @@ module _ {E : Type 0} where
   Judged m [] = Unit
   Judged m (e ∷ es) = JudgedAs m (e .call) (e .reply) × Judged (advance m e) es
 
+-- what a day file keeps of committed transactions is in its range: the console, how many versions were noted and how many
+-- overwritten, the low mark, and that each version is below the number of records and of all writes of earlier commits
+module _ {E : Type 0} where
+  abbrev pub madeIn : ℕ → List (Transaction E) → ℕ
+  madeIn size [] = size
+  madeIn size (t ∷ ts) = madeIn size ts + length (overwrittenIn (t .acts))
+
+  pub record InRange (made : ℕ) (t : Transaction E) : Type 0 where
+    pub console : t .console < 16
+    pub reads : length (readIn (t .acts)) ≤ 64
+    pub writes : length (overwrittenIn (t .acts)) ≤ 16
+    pub low : (1 ≤ t .grant .low) × (t .grant .low ≤ t .grant .stamp)
+    pub read : (v : ℕ) → HasRead t v → v < made
+    pub overwritten : (v : ℕ) → HasOverwritten t v → v < made
+
+  abbrev pub AllInRange : ℕ → List (Transaction E) → Type 0
+  AllInRange size [] = Unit
+  AllInRange size (t ∷ ts) = InRange (madeIn size ts) t × AllInRange size ts
+
 -- dependencies one after another, from u to t
 pub data Leads {E : Type 0} (done : List (Transaction E)) : Transaction E → Transaction E → Type 0 where
   one : {u t : Transaction E} → Depends done u t → Leads done u t
@@ -109,3 +128,4 @@ pub record Lawful {E : Type 0} (rules : Rules) (size room : ℕ) (first : E) (s 
   pub serial : Serial size first s (summaryOf size h .done)
   pub marks : Marked size s h
   pub striking : Struck rules size room first s h
+  pub entries : AllInRange size (summaryOf size h .done)

@@ -42,7 +42,9 @@ pub enum Layer {
     Store,
     Certifier,
     Opening,
+    Card,
     Sheet,
+    File,
 }
 
 /// A refusal as the table of refusals has it: its number, and the layer that it comes from.
