@@ -15,12 +15,12 @@ use Rattle.store.specs.declared.Version.{Version}
 use Rattle.store.specs.declared.Pending.{Pending}
 use Rattle.store.specs.Meaning.{ownAt, replaced, holds}
 use Rattle.certifier.specs.declared.Over.{Over}
-use Rattle.certifier.specs.Marking.{Track, member, noteIn, notes, noted}
+use Rattle.certifier.specs.Marking.{Track, oversOf, member, noteIn, notes, noted}
 use Rattle.certifier.specs.History.{Act, Transaction, noteSome, gather, readBy, overwrittenBy, writtenBy, readIn, overwrittenIn, recordsIn}
 use Rattle.certifier.specs.History.Act.{tookOwn, tookVersion, put}
 use Rattle.certifier.specs.Law.{Has}
 use Rattle.certifier.proofs.Goods.{pendingAfter, chainOf, newestOf, Valid}
-use Rattle.certifier.proofs.Rows.{oversOf, recordsOf}
+use Rattle.certifier.proofs.Rows.{recordsOf}
 
 -- one more version noted is the 64th at most
 note-few : (n : ℕ) (xs : List ℕ) → length xs ≤ 64 → (member n xs || not (leb 64 (length xs))) ≡ true → length (noteIn n xs) ≤ 64

@@ -18,14 +18,14 @@ use Rattle.store.proofs.Lists.{versions-set}
 use Rattle.certifier.specs.declared.Grant.{Grant}
 use Rattle.certifier.specs.declared.Mark.{Mark}
 use Rattle.certifier.specs.declared.Over.{Over}
-use Rattle.certifier.specs.Marking.{Track, newMark, markAt, member, lowOr, verdictOf, marked}
+use Rattle.certifier.specs.Marking.{Track, oversOf, newMark, markAt, member, lowOr, verdictOf, marked}
 use Rattle.certifier.specs.Ranking.{ranked}
 use Rattle.certifier.specs.Meaning.{LogState, trackAt}
 use Rattle.certifier.specs.History.{Act, Transaction, Summary, readIn, overwrittenIn, recordsIn, currentAt, madeBy, stampOf, readStamp, lowOf, markOf, lowestOf, greatestStampOf, greatestHighOf, grantOf}
 use Rattle.certifier.specs.History.Act.{tookOwn, tookVersion, put}
 use Rattle.certifier.specs.Law.{Has}
 use Rattle.certifier.proofs.Goods.{pendingAfter, addedBy, chainOf, newestOf, nextOf, Valid, Fits, Good}
-use Rattle.certifier.proofs.Rows.{oversOf, lowRight, stampRight, highRight, verdict-is, remarked, raise, lower, marked-length, marked-old, marked-new}
+use Rattle.certifier.proofs.Rows.{lowRight, stampRight, highRight, verdict-is, remarked, raise, lower, marked-length, marked-old, marked-new}
 use Rattle.certifier.proofs.Chains.{has-front, held-replaced, pending-count, added-none, read-act, overwrite-act, valid-read, valid-put, number-under, newest-has, overwritten-below, low-past}
 use Rattle.certifier.proofs.Acts.{Row}
 use Rattle.certifier.proofs.Ties.{consoleHolds, Matches, Tied}

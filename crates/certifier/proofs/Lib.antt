@@ -1,5 +1,6 @@
 mod Acts
 mod Chains
+mod Fills
 mod Folds
 mod Forward
 mod Goods

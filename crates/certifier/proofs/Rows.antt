@@ -15,10 +15,7 @@ use Rattle.certifier.specs.declared.Grant.{Grant}
 use Rattle.certifier.specs.declared.Mark.{Mark}
 use Rattle.certifier.specs.declared.Over.{Over}
 use Rattle.certifier.specs.Marking as marking
-use Rattle.certifier.specs.Marking.{Track, newMark, markAt, member, wrote, written, lowOr, lowMark, topStamp, topHigh, raised, lowered, addRow, grown, verdictOf}
-
-abbrev pub oversOf : List Over → List ℕ
-oversOf ws = map (λ w. w .version) ws
+use Rattle.certifier.specs.Marking.{Track, oversOf, newMark, markAt, member, wrote, written, lowOr, lowMark, topStamp, topHigh, raised, lowered, addRow, grown, verdictOf}
 
 abbrev pub recordsOf : List Over → List ℕ
 recordsOf ws = map (λ w. w .at) ws

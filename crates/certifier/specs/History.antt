@@ -41,6 +41,14 @@ pub record Transaction (E : Type 0) : Type 0 where
   pub first : ℕ
   pub grant : Grant
 
+-- what a day file keeps of a commit: its console and its low mark, the versions that it noted, as noted, and those that it
+-- overwrote, as first written
+pub record Entry : Type 0 where
+  pub console : ℕ
+  pub low : ℕ
+  pub reads : List ℕ
+  pub writes : List ℕ
+
 -- what has happened so far: the next unused version number, for each console the accepted reads and writes of its open
 -- transaction, and the committed transactions, the newest first
 pub record Summary (E : Type 0) : Type 0 where
@@ -123,6 +131,14 @@ module _ {E : Type 0} where
 
   abbrev pub recordsIn : List (Act E) → List ℕ
   recordsIn acts = gather writtenBy [] acts
+
+  -- what a day file keeps of committed transactions, in commit order
+  abbrev pub entryOf : Transaction E → Entry
+  entryOf t = record { console = t .console; low = t .grant .low; reads = readIn (t .acts); writes = overwrittenIn (t .acts) }
+
+  abbrev pub entriesIn : List (Transaction E) → List Entry
+  entriesIn [] = []
+  entriesIn (t ∷ ts) = entriesIn ts ++ (entryOf t ∷ [])
 
   -- the history, event by event
   abbrev pub currentAt : Summary E → ℕ → Option (List (Act E))

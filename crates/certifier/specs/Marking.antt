@@ -1,5 +1,5 @@
 -- Marks: what is kept of each version and of each open transaction, and the marks that a commit is judged by.
-use mathlib.Core.List.{List, [], _∷_, _++_}
+use mathlib.Core.List.{List, [], _∷_, _++_, map}
 use mathlib.Core.Bool.{Bool, true, false, cond, _||_, not}
 use Prim.Native.Nat.{ℕ, _+_, min, max}
 use lib.ListN.{length, getD, set}
@@ -17,6 +17,10 @@ pub record Track : Type 0 where
 
 abbrev pub noTrack : Track
 noTrack = record { noted = []; writes = [] }
+
+-- the versions that it overwrites, as first written
+abbrev pub oversOf : List Over → List ℕ
+oversOf ws = map (λ w. w .version) ws
 
 abbrev pub member : ℕ → List ℕ → Bool
 member n [] = false

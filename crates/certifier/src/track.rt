@@ -2,9 +2,10 @@
 ghost use mathlib.Core.Path.{_≡_};
 ghost use mathlib.Core.Bool.{cond};
 ghost use lib.Dec.{leb};
-ghost use lib.ListN.{length, getD, set, replicate};
-ghost use Prim.Native.Nat.{ℕ, _<_, _%_};
-ghost use Rattle.certifier.specs.Marking.{noTrack, member, wrote, noted, notes, written};
+ghost use mathlib.Core.List.{_++_};
+ghost use lib.ListN.{length, getD, set, replicate, drop};
+ghost use Prim.Native.Nat.{ℕ, _<_, _≤_, _%_};
+ghost use Rattle.certifier.specs.Marking.{noTrack, oversOf, member, wrote, noted, notes, written};
 ghost use Rattle.certifier.specs.Logs.{trackOf, tracksOf};
 use crate::Over;
 use crate::few::Few;
@@ -53,6 +54,19 @@ impl Track {
         }
         self.noted.push(n);
         true
+    }
+
+    // Puts the numbers of the overwritten versions at the front of a list that has room for them, and answers how many.
+    pub(crate) fn fill(&self, list: &mut [u32]) -> usize
+        requires { ⌜ length (trackOf (now self) .writes) ≤ length (now list) ⌝ }
+        ensures count { λ r. ⌜ r ≡ length (trackOf (now (self .entry)) .writes) ⌝ }
+        ensures list { λ _. ⌜ now (list .exit) ≡ oversOf (trackOf (now (self .entry)) .writes) ++ drop (length (trackOf (now (self .entry)) .writes)) (now (list .entry)) ⌝ }
+    {
+        let writes = self.writes.as_slice();
+        for (i, write) in writes.iter().enumerate() {
+            list[i] = write.version;
+        }
+        writes.len()
     }
 
     pub(crate) fn write(&mut self, at: u32, version: u32)
