@@ -10,7 +10,7 @@ use Rattle.store.specs.Meaning.{Rules, Inside, Range, chainAt, origin, newestAt
 use Rattle.certifier.specs.declared.Call.{Call}
 use Rattle.certifier.specs.Ranking.{joined}
 use Rattle.certifier.specs.Meaning.{LogState, Reply, answersOf, after, opened}
-use Rattle.certifier.specs.History.{Event, Transaction, Summary, historyOf, unused, summaryOf}
+use Rattle.certifier.specs.History.{Event, Entry, Transaction, Summary, entriesIn, historyOf, unused, summaryOf}
 use Rattle.certifier.specs.Law.{Ranked, Serial, Marked, Judged, madeIn, AllInRange, Lawful}
 use Rattle.certifier.proofs.Goods.{chainOf, newestOf, nextOf, Good}
 use Rattle.certifier.proofs.Chains.{read-below, overwritten-below}
@@ -18,7 +18,9 @@ use Rattle.certifier.proofs.Forward.{forward, acyclic, stamps, total, sorted, 
 use Rattle.certifier.proofs.Serials.{replays, ends}
 use Rattle.certifier.proofs.Orders.{counted, order}
 use Rattle.certifier.proofs.Ties.{Tied}
+use Rattle.certifier.proofs.Whole as whole
 use Rattle.certifier.proofs.Whole.{run-kept, opened-tied}
+use Rattle.certifier.specs.Logs.{filedIn}
 use Rattle.certifier.proofs.Strikes.{struck}
 
 module _ {E : Type 0} where
@@ -76,6 +78,13 @@ module _ {E : Type 0} where
         striking = struck rules size room first cs;
         entries = in-range first size (summaryOf size (historyOf cs (answersOf rules (opened size room first) cs)) .done) (w .0 .good);
       }
+
+  -- what is kept for the day file is what the history says of its commits
+  pub run-filed : (rules : Rules) → Inside rules → (size room : ℕ) → Range size room → (first : E) (cs : List (Call E)) (xs : List (Reply E)) (es : List Entry)
+      → xs ≡ answersOf rules (opened size room first) cs → es ≡ filedIn rules (opened size room first) cs → es ≡ entriesIn (summaryOf size (historyOf cs xs) .done)
+  run-filed rules law size room ok first cs xs es ex ee =
+      ee ∙ (whole.run-filed rules law first size cs (unused size) (opened size room first) (opened-tied first size room ok)
+      ∙ ap (λ (ys : List (Reply E)). entriesIn (summaryOf size (historyOf cs ys) .done)) (sym ex))
 
   -- the same of what a run answered and left
   pub run-lawful : (rules : Rules) → Inside rules → (size room : ℕ) → Range size room → (first : E) (cs : List (Call E)) (s : LogState E) (xs : List (Reply E))

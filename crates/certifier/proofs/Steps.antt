@@ -23,7 +23,7 @@ use Rattle.certifier.specs.declared.Mark.{Mark}
 use Rattle.certifier.specs.declared.track.Track as code
 use Rattle.certifier.specs.Refusals.{passed, writes-full}
 use Rattle.certifier.specs.Marking.{Track, noTrack, noted, written, markAt, lowOr, lowMark}
-use Rattle.certifier.specs.Logs.{trackOf}
+use Rattle.certifier.specs.Entries.{trackOf}
 use Rattle.certifier.specs.Meaning.{LogState, Reply, isOpen, trackAt, writing, full, writeStep}
 use Rattle.certifier.specs.Meaning.Reply.{overwrites, refused}
 

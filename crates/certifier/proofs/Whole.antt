@@ -1,17 +1,18 @@
 -- The invariant of runs holds from opening on, whatever is called; and each commit is answered as the history says.
-use mathlib.Core.Path.{_≡_, refl, sym, ap, _∙_, subst}
-use mathlib.Core.List.{List, [], _∷_, _++_}
+use mathlib.Core.Path.{_≡_, refl, sym, ap, ap₂, _∙_, subst}
+use mathlib.Core.List.{List, [], _∷_, _++_, append-assoc}
 use mathlib.Core.Logic.{⊎-elim}
 use mathlib.Core.Bool.{Bool, true, false, cond}
-use Prim.Native.Nat.{ℕ, zero, suc, _+_, _≤_, _<_}
+use Prim.Native.Nat.{ℕ, zero, suc, _+_, _%_, _≤_, _<_}
 use native.Mathlib.Omega.{arith}
 use lib.ListN.{length, getD, set, replicate}
 use lib.Dec.{ltb, eqb}
-use Rattle.std.proofs.shelf.Lists.{getD-set-same, getD-set-other, getD-replicate, length-replicate}
+use Rattle.std.proofs.shelf.Lists.{append-nil, getD-set-same, getD-set-other, getD-replicate, length-replicate}
 use Rattle.std.proofs.shelf.Tests.{both-ways, cond-true, cond-false, cases-eq, ltb-true, lt-ltb}
 use Rattle.std.specs.declared.option.Option.{Option}
 use Rattle.std.specs.declared.option.Option.the-variants.{Some, None}
 use Rattle.store.specs.declared.Layer.the-variants.{Certifier}
+use Rattle.store.specs.declared.Code.{Code}
 use Rattle.store.specs.declared.Pending.{Pending}
 use Rattle.store.specs.declared.Version.{Version}
 use Rattle.store.specs.Refusals.{no-console, shut, day-full}
@@ -22,10 +23,12 @@ use Rattle.certifier.specs.declared.Call.{Call}
 use Rattle.certifier.specs.declared.Call.the-variants.{Begin, Read, Write, Commit, Drop}
 use Rattle.certifier.specs.declared.Grant.{Grant}
 use Rattle.certifier.specs.Refusals.{unsafe}
-use Rattle.certifier.specs.Marking.{noTrack, newMark}
+use Rattle.certifier.specs.Marking.{Track, noTrack, newMark}
 use Rattle.certifier.specs.Meaning.{LogState, Reply, trackAt, grantAt, settled, step, commitStep, answersOf, after, opened}
 use Rattle.certifier.specs.Meaning.Reply.{granted, refused}
-use Rattle.certifier.specs.History.{Event, Act, Summary, historyOf, currentAt, actsAt, withCurrent, finished, advance, advances, unused, judged, grantOf, verdict}
+use Rattle.certifier.specs.History.{Event, Act, Entry, Summary, consoleOf, readIn, overwrittenIn, entriesIn, historyOf, currentAt, actsAt, withCurrent, finished, advance, advances, unused, judged, grantOf, verdict}
+use Rattle.certifier.specs.Entries.{entryAt, entryFor, trackFor}
+use Rattle.certifier.specs.Logs.{filedIn}
 use Rattle.certifier.specs.Law.{Has, JudgedAs, Judged}
 use Rattle.certifier.proofs.Goods.{chainOf}
 use Rattle.certifier.proofs.Acts.{Row}
@@ -117,6 +120,48 @@ module _ {E : Type 0} where
     judged-as rules (Write k r e) = tt
     judged-as rules (Commit k) = judges k
     judged-as rules (Drop k) = tt
+
+  -- what is kept of a call for the day file is what the history says of its commit
+  refused-none : (c : Call E) (x : Code) (t : Track) → entryFor c (refused x) t ≡ []
+  refused-none (Begin k) x t = refl
+  refused-none (Read k r) x t = refl
+  refused-none (Write k r e) x t = refl
+  refused-none (Commit k) x t = refl
+  refused-none (Drop k) x t = refl
+
+  module _ {f : E} {size : ℕ} {m : Summary E} {s : LogState E} (h : Tied f size m s) where
+    same-done : (b : Bool) (k : ℕ) → cond b (withCurrent m k None) m .done ≡ m .done
+    same-done true k = refl
+    same-done false k = refl
+
+    entry-is : (k : ℕ) (o : Console E) → Live s k o → entryAt k (grantAt s k .low) (trackAt s (k % 16))
+        ≡ record { console = k; low = grantAt s k .low; reads = readIn (actsAt m k); writes = overwrittenIn (actsAt m k) }
+    entry-is k o a =
+        let w = row-at h k o (a .console) .1 in
+        let n : k % 16 ≡ k = omega (arith, a .near) in
+        let F : List ℕ → List ℕ → Entry = λ x y. record { console = k; low = grantAt s k .low; reads = x; writes = y } in
+        ap (λ j. entryAt k (grantAt s k .low) (trackAt s j)) n ∙ ap₂ F (w .noted) (w .overwritten)
+
+    step-filed : (rules : Rules) (c : Call E) (x : Reply E) (t : LogState E) → Step rules s c x t
+        → entriesIn (m .done) ++ entryFor c x (trackFor s c) ≡ entriesIn (advance m (record { call = c; reply = x }) .done)
+    step-filed rules c x t (refusal _ y n) =
+        ap (λ (es : List Entry). entriesIn (m .done) ++ es) (refused-none c y (trackFor s c)) ∙ (append-nil (entriesIn (m .done)) ∙ sym (ap entriesIn (same-done (eqb (y .number) 11) (consoleOf c))))
+    step-filed rules c x t (begins k l e) = append-nil (entriesIn (m .done))
+    step-filed rules c x t (owns k r o e a l q) = append-nil (entriesIn (m .done))
+    step-filed rules c x t (sees k r o a l q n) = append-nil (entriesIn (m .done))
+    step-filed rules c x t (writes k r e o a l space lets) = append-nil (entriesIn (m .done))
+    step-filed rules c x t (commits k o a d safe) = ap (λ (e : Entry). entriesIn (m .done) ++ (e ∷ [])) (entry-is k o a)
+    step-filed rules c x t (fails k o a d g) = append-nil (entriesIn (m .done))
+    step-filed rules c x t (drops k o a) = append-nil (entriesIn (m .done))
+
+  pub run-filed : (rules : Rules) → Inside rules → (f : E) (size : ℕ) (cs : List (Call E)) (m : Summary E) (s : LogState E) → Tied f size m s
+      → entriesIn (m .done) ++ filedIn rules s cs ≡ entriesIn (advances m (historyOf cs (answersOf rules s cs)) .done)
+  run-filed rules law f size [] m s h = append-nil (entriesIn (m .done))
+  run-filed rules law f size (c ∷ cs) m s h =
+      let v = view rules s c in
+      sym (append-assoc (entriesIn (m .done)) (entryFor c (step rules s c .0) (trackFor s c)) (filedIn rules (step rules s c .1) cs))
+      ∙ (ap (λ (es : List Entry). es ++ filedIn rules (step rules s c .1) cs) (step-filed h rules c _ _ v)
+      ∙ run-filed rules law f size cs (advance m (record { call = c; reply = step rules s c .0 })) (step rules s c .1) (step-kept h rules law c _ _ v))
 
   pub run-kept : (rules : Rules) → Inside rules → (f : E) (size : ℕ) (cs : List (Call E)) (m : Summary E) (s : LogState E) → Tied f size m s
       → Tied f size (advances m (historyOf cs (answersOf rules s cs))) (after rules s cs) × Judged m (historyOf cs (answersOf rules s cs))

@@ -7,4 +7,5 @@ pub mod Striking
 pub mod Law
 pub mod Links
 pub mod Rankings
+pub mod Entries
 pub mod Logs

@@ -1,8 +1,7 @@
 -- What a log of the code stands for, and what each case of its answers does.
 use mathlib.Core.Path.{_≡_}
-use mathlib.Core.List.{List, map}
+use mathlib.Core.List.{List, [], _∷_, _++_, map}
 use Prim.Native.Nat.{ℕ}
-use lib.ListN.{take}
 use Rattle.std.specs.Of.Vec.{vec-items}
 use Rattle.std.specs.declared.result.Result.{Result}
 use Rattle.std.specs.declared.result.Result.the-variants.{Ok, Err}
@@ -11,8 +10,6 @@ use Rattle.store.specs.declared.Seen.the-variants as seen
 use Rattle.store.specs.declared.OpenFault.{OpenFault}
 use Rattle.store.specs.Refusals.{Answer, answerBy, openCode}
 use Rattle.store.specs.Meaning.{Rules, State, Range, Unopened}
-use Rattle.certifier.specs.declared.few.Few.{Few}
-use Rattle.certifier.specs.declared.track.Track as code
 use Rattle.certifier.specs.declared.track.Tracks.{Tracks}
 use Rattle.certifier.specs.declared.log.Log.{Log}
 use Rattle.certifier.specs.declared.runs.Outcome.{Outcome}
@@ -24,16 +21,11 @@ use Rattle.certifier.specs.declared.Answer.the-variants as case
 use Rattle.certifier.specs.Refusals.{codeOf}
 use Rattle.certifier.specs.Marking.{Track}
 use Rattle.certifier.specs.Rankings.{ranksOf}
-use Rattle.certifier.specs.Meaning.{LogState, Reply, opened, answersOf, after}
-use Rattle.certifier.specs.History.{historyOf}
+use Rattle.certifier.specs.Meaning.{LogState, Reply, opened, step, answersOf, after}
+use Rattle.certifier.specs.History.{Entry, historyOf, summaryOf, entriesIn}
+use Rattle.certifier.specs.Entries.{fewOf, trackOf, entryBy, entryFor, trackFor}
 use Rattle.certifier.specs.Law.{Lawful}
 use Rattle.certifier.specs.Meaning.Reply.{begun, own, saw, overwrites, granted, dropped, refused}
-
-abbrev pub fewOf : {T : Type 0} {N : ℕ} → Few T N → List T
-fewOf f = take (f .len) (f .items)
-
-abbrev pub trackOf : code.Track → Track
-trackOf t = record { noted = fewOf (t .noted); writes = fewOf (t .writes) }
 
 abbrev pub tracksOf : Tracks → List Track
 tracksOf ts = map trackOf (ts .list)
@@ -87,16 +79,29 @@ module _ {E : Type 0} where
   abbrev pub repliesOf : List (code-answer.Answer E) → List (Reply E)
   repliesOf xs = map replyOf xs
 
+-- what is kept of calls for the day file, each with what the log answered
+abbrev pub filedIn : {E : Type 0} → Rules → LogState E → List (Call E) → List Entry
+filedIn rules s [] = []
+filedIn rules s (c ∷ cs) = entryFor c (step rules s c .0) (trackFor s c) ++ filedIn rules (step rules s c .1) cs
+
+-- calls that lead from s to t: their answers, and what is kept of them
+pub record Plays {E : Type 0} (rules : Rules) (s : LogState E) (calls : List (Call E)) (t : LogState E) (replies : List (Reply E)) (entries : List Entry) : Type 0 where
+  pub replied : replies ≡ answersOf rules s calls
+  pub left : t ≡ after rules s calls
+  pub filed : entries ≡ filedIn rules s calls
+
 -- what opening a log answers
 abbrev pub OpensLog : {S E : Type 0} → (S → State E) → ℕ → ℕ → E → Result (Log S E) OpenFault → Type 0
 OpensLog state size room first (Ok log) = Range size room × (logState state log ≡ opened size room first)
 OpensLog state size room first (Err f) = Unopened size room (openCode f)
 
--- what a run answers: the answers and the end state are those of the meaning, from the opening on, and the law holds
+-- what a run answers: the answers and the end state are those of the meaning, from the opening on, the law holds, and
+-- what is kept for the day file is what the history says of its commits
 abbrev pub Runs : {S E : Type 0} → Rules → (S → State E) → ℕ → ℕ → E → List (Call E) → Result (Outcome S E) OpenFault → Type 0
 Runs rules state size room first calls (Ok run) =
     Range size room
     × (logState state (run .log) ≡ after rules (opened size room first) calls)
     × (repliesOf (vec-items (run .answers)) ≡ answersOf rules (opened size room first) calls)
     × Lawful rules size room first (logState state (run .log)) (historyOf calls (repliesOf (vec-items (run .answers))))
+    × (map entryBy (vec-items (run .entries)) ≡ entriesIn (summaryOf size (historyOf calls (repliesOf (vec-items (run .answers)))) .done))
 Runs rules state size room first calls (Err f) = Unopened size room (openCode f)

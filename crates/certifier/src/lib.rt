@@ -8,6 +8,7 @@ use store::Version;
 use store::VersionClone;
 
 mod calls;
+mod entry;
 mod few;
 mod log;
 mod marks;
@@ -16,6 +17,7 @@ mod ranks;
 mod runs;
 mod track;
 
+pub use crate::entry::DayEntry;
 pub use crate::log::Log;
 pub use crate::runs::Outcome;
 pub use crate::runs::run;

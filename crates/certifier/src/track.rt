@@ -6,7 +6,8 @@ ghost use mathlib.Core.List.{_++_};
 ghost use lib.ListN.{length, getD, set, replicate, drop};
 ghost use Prim.Native.Nat.{ℕ, _<_, _≤_, _%_};
 ghost use Rattle.certifier.specs.Marking.{noTrack, oversOf, member, wrote, noted, notes, written};
-ghost use Rattle.certifier.specs.Logs.{trackOf, tracksOf};
+ghost use Rattle.certifier.specs.Entries.{trackOf};
+ghost use Rattle.certifier.specs.Logs.{tracksOf};
 use crate::Over;
 use crate::few::Few;
 

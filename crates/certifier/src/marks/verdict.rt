@@ -5,7 +5,7 @@ ghost use lib.Dec.{ltb};
 ghost use lib.ListN.{length};
 ghost use Rattle.std.specs.declared.option.Option.the-variants.{Some, None};
 ghost use Rattle.std.specs.Of.Vec.{vec-items};
-ghost use Rattle.certifier.specs.Logs.{trackOf};
+ghost use Rattle.certifier.specs.Entries.{trackOf};
 ghost use Rattle.certifier.specs.Marking.{markAt, lowMark, topStamp, topHigh, raiseRow, lowerRow, addRow, raised, lowered, grown, marked, verdictOf};
 use crate::Grant;
 use crate::Mark;

@@ -1,10 +1,10 @@
 use mathlib.Core.Path.{_≡_}
-use mathlib.Core.List.{_++_}
-use Prim.Native.Nat.{_≤_}
-use lib.ListN.{length, drop}
-use Rattle.std.specs.Of.Vec.{vec-items, vec-len, vec-cap}
+use mathlib.Core.List.{_++_, map}
+use lib.ListN.{drop}
+use Rattle.std.specs.Of.Vec.{vec-items}
 use Rattle.certifier.specs.Meaning.{answersOf, after}
-use Rattle.certifier.specs.Logs.{logState, repliesOf}
+use Rattle.certifier.specs.Entries.{entryBy}
+use Rattle.certifier.specs.Logs.{logState, repliesOf, filedIn}
 use Rattle.certifier.proofs.log.Log.play.Given as given
 
 abbrev pub Inv-loop-call : given.InvT-loop-call
@@ -13,5 +13,5 @@ Inv-loop-call g l =
     ≡ answersOf (g .S·Store .rules) (logState (g .S·Store .state) (l .entry .self)) (l .calls))
     × (after (g .S·Store .rules) (logState (g .S·Store .state) (l .self)) (drop (l .call-index) (l .calls))
     ≡ after (g .S·Store .rules) (logState (g .S·Store .state) (l .entry .self)) (l .calls))
-    × (vec-len (l .answers) ≡ l .call-index)
-    × (length (l .calls) ≤ vec-cap (l .answers))
+    × (map entryBy (vec-items (l .entries)) ++ filedIn (g .S·Store .rules) (logState (g .S·Store .state) (l .self)) (drop (l .call-index) (l .calls))
+    ≡ filedIn (g .S·Store .rules) (logState (g .S·Store .state) (l .entry .self)) (l .calls))

@@ -6,7 +6,8 @@ use Rattle.std.proofs.shelf.Results.{err-from-errBy}
 use Rattle.store.specs.Meaning.{State, shownBy}
 use Rattle.store.specs.Refusals.Answer.{gives}
 use Rattle.certifier.specs.Meaning.{full}
-use Rattle.certifier.specs.Logs.{logState, trackOf}
+use Rattle.certifier.specs.Logs.{logState}
+use Rattle.certifier.specs.Entries.{trackOf}
 use Rattle.certifier.proofs.Steps.{write-full, write-ok, write-refused, few-written, own-written}
 use Rattle.certifier.proofs.log.Log.write.Needs as need
 use Rattle.certifier.proofs.log.Log.write.Needs.{then-is-full·in-Continue-read·in-Own, else-is-full}
