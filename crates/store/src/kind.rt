@@ -34,11 +34,11 @@ pub impl Kind for Newest as NewestKind {
 
     ghost test = { λ stamp began. true };
 
-    fn shows(stamp: u16, began: u16) -> bool {
+    fn shows(_stamp: u16, _began: u16) -> bool {
         true
     }
 
-    fn admits(stamp: u16, began: u16) -> bool {
+    fn admits(_stamp: u16, _began: u16) -> bool {
         true
     }
 }

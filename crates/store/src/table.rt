@@ -1,4 +1,4 @@
-// The versions of every record in one table of places, which are used again when they are given back.
+// The versions of every record in one table of places, with a list of the free ones.
 ghost use mathlib.Core.Path.{_≡_};
 ghost use Prim.Native.Nat.{ℕ, _+_, _≤_, _<_};
 ghost use lib.ListN.{length, getD};
