@@ -17,12 +17,17 @@ use store::kind::Kind;
 use store::versions::Versions;
 use store::versions::calls::VersionsStore;
 
+/// An answer or a refusal that a line can say.
+pub(crate) trait Say {
+    fn say(self) -> Said;
+}
+
 /// What takes the calls of a run: a store, or a log.
 pub(crate) trait Ask: Drop {
     /// What the lines of its calls begin with.
     const NAME: &'static str;
 
-    fn fresh(heap: Global, size: u32, room: u32) -> Result<Self, OpenFault>;
+    fn fresh(heap: Global, size: u32, room: u32, first_entry: u32) -> Result<Self, OpenFault>;
 
     /// Makes the call, and says what it was answered.
     fn ask(&mut self, call: Call<u32>) -> Said;
@@ -35,8 +40,13 @@ pub(crate) trait Ask: Drop {
 pub(crate) impl<K: Kind> Ask for Versions<u32, K> as StoreAsk {
     const NAME: &'static str = "store";
 
-    fn fresh(heap: Global, size: u32, room: u32) -> Result<Versions<u32, K>, OpenFault> {
-        Versions::open(heap, size, room, 0)
+    fn fresh(
+        heap: Global,
+        size: u32,
+        room: u32,
+        first_entry: u32,
+    ) -> Result<Versions<u32, K>, OpenFault> {
+        Versions::open(heap, size, room, first_entry)
     }
 
     fn ask(&mut self, call: Call<u32>) -> Said {
@@ -61,8 +71,13 @@ pub(crate) impl<K: Kind> Ask for Versions<u32, K> as StoreAsk {
 pub(crate) impl<S: Store<u32>> Ask for Log<S, u32> as LogAsk {
     const NAME: &'static str = "log";
 
-    fn fresh(heap: Global, size: u32, room: u32) -> Result<Log<S, u32>, OpenFault> {
-        Log::open(heap, size, room, 0)
+    fn fresh(
+        heap: Global,
+        size: u32,
+        room: u32,
+        first_entry: u32,
+    ) -> Result<Log<S, u32>, OpenFault> {
+        Log::open(heap, size, room, first_entry)
     }
 
     fn ask(&mut self, call: Call<u32>) -> Said {

@@ -1,10 +1,10 @@
 // A whole run: a log opened and played in one call.
 use crate::Rides;
 use crate::ask::LogAsk;
+use crate::ask::Say;
 use crate::say::AnswerSay;
 use crate::say::OpenFaultSay;
 use crate::say::SaidDisplay;
-use crate::say::Say;
 use crate::say::tell;
 use crate::scenes::end;
 use certifier::Answer;

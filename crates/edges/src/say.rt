@@ -1,4 +1,5 @@
 // What a line says: a call, and what it was answered.
+use crate::ask::Say;
 use certifier::Answer;
 use certifier::Call;
 use certifier::Grant;
@@ -75,11 +76,6 @@ pub(crate) impl fmt::Display for Said as SaidDisplay {
             Said::NoMemory => write!(f, "no memory"),
         }
     }
-}
-
-/// An answer or a refusal that a line can say.
-pub(crate) trait Say {
-    fn say(self) -> Said;
 }
 
 pub(crate) impl Say for () as DoneSay {

@@ -1,9 +1,9 @@
 // What a store and a log refuse alike.
 use crate::ask::Ask;
+use crate::ask::Say;
 use crate::say::OpenFaultSay;
 use crate::say::Said;
 use crate::say::SaidDisplay;
-use crate::say::Say;
 use crate::say::tell;
 use certifier::Call;
 use std::error::AnyError;
@@ -21,7 +21,7 @@ pub(crate) fn show<T: Ask>(rt: LibcRuntime) -> Result<(), AnyError> {
 
 /// A fresh store or log, of numbers that are in their ranges.
 pub(crate) fn fresh<T: Ask>(rt: LibcRuntime, size: u32, room: u32) -> Result<T, AnyError> {
-    match T::fresh(rt.alloc(), size, room) {
+    match T::fresh(rt.alloc(), size, room, 0) {
         Ok(table) => Ok(table),
         Err(_) => Err("it does not open".into()),
     }
@@ -62,7 +62,7 @@ pub(crate) fn end<T: Ask>(rt: LibcRuntime, table: &T) -> Result<(), AnyError> {
 
 fn opening<T: Ask>(rt: LibcRuntime, size: u32, room: u32) -> Result<(), AnyError> {
     let name = T::NAME;
-    let said = match T::fresh(rt.alloc(), size, room) {
+    let said = match T::fresh(rt.alloc(), size, room, 0) {
         Ok(table) => Said::Number(table.records()),
         Err(fault) => fault.say(),
     };
