@@ -1,5 +1,7 @@
 // Days of work on a log, and what they counted. With the word `times` also how long a transaction took, with `open` no
 // more than one log opened.
+#![tactic(auto)]
+
 use anyhow::anyhow;
 use certifier::Log;
 use std::env;

@@ -1,4 +1,6 @@
 // Inspection cards: the plain row that a log holds, and the card that is made of it.
+#![tactic(auto)]
+
 ghost use Rattle.std.specs.Prelude.{◌≡◌, eqb};
 ghost use Rattle.store.specs.Refusals.{answer_by};
 ghost use Rattle.cards.specs.Cards.{is_due, code_of, card_of};

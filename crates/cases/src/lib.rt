@@ -1,4 +1,6 @@
 //! Worked examples of the log, proved of the definitions by computation.
+#![tactic(auto)]
+
 ghost use Rattle.std.specs.Prelude.{◌≡◌};
 ghost use Rattle.cases.specs.Examples.{Examples};
 

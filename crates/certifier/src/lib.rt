@@ -1,4 +1,6 @@
 // The certifier, the Serial Safety Net above any store: the types of its calls and answers.
+#![tactic(auto)]
+
 ghost use Rattle.std.specs.Prelude.{◌≡◌};
 ghost use Rattle.certifier.specs.Refusals.{code_of};
 

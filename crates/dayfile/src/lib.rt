@@ -1,4 +1,6 @@
 // Day files: the format, its refusals, and the reader.
+#![tactic(auto)]
+
 mod file;
 mod read;
 

@@ -1,3 +1,5 @@
+#![tactic(auto)]
+
 mod put;
 mod state;
 mod whole;

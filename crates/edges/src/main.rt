@@ -1,4 +1,6 @@
 // Every refusal of a store and of a log at its edge: lists of calls, and a line for each with what it was answered.
+#![tactic(auto)]
+
 use certifier::Log;
 use store::kind::{Newest, Snapshot};
 use versions::Versions;

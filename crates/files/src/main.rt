@@ -1,4 +1,6 @@
 // Day files at their edges: a line for each case, with what it was answered.
+#![tactic(auto)]
+
 use std::io;
 
 mod copying;

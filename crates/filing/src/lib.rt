@@ -1,4 +1,6 @@
 //! Day files of logs: a run with what a day file keeps of it, and the file itself.
+#![tactic(auto)]
+
 ghost use Rattle.filing.specs.Days.{RunsDay};
 
 use certifier::Call;

@@ -1,4 +1,6 @@
 // A day of inspections: cards are made and booked on a log of card rows, and what happened is printed.
+#![tactic(auto)]
+
 use anyhow::anyhow;
 use cards::{Card, CardRow, State};
 use certifier::{Log, LogRefusal};

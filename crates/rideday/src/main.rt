@@ -1,5 +1,7 @@
 // A day at a ride: sixteen consoles dispatch trains, transfer cycles and audit the counts, call by call among one another,
 // and the planner's plain counters are laid beside the counts in the log.
+#![tactic(auto)]
+
 use anyhow::anyhow;
 use certifier::Log;
 use store::kind::{Newest, Snapshot};

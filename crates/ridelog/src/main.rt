@@ -1,5 +1,7 @@
 // The ride log's program. Without a word it answers the call sheet on standard input; with the word `file` it writes the
 // day file that the sheet leaves, and with the word `show` it prints the last day file in its input.
+#![tactic(auto)]
+
 use anyhow::anyhow;
 use filing::show_file;
 use sheet::{answer_sheet, file_sheet};

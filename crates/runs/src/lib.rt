@@ -1,4 +1,6 @@
 // Whole runs: a log is opened, and a list of calls is played on it.
+#![tactic(auto)]
+
 ghost use Rattle.std.specs.Prelude.{◌≡◌, ◌++◌, map, IfOk, OnOk};
 ghost use Rattle.std.specs.Option.{option_map, option_to_list};
 ghost use Rattle.certifier.specs.Meaning.{step};

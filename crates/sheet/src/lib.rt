@@ -1,4 +1,6 @@
 //! The call sheet: its lines are read, answered by a log, and printed or put into a day file.
+#![tactic(auto)]
+
 ghost use Rattle.std.specs.Prelude.{◌≡◌, ℕ, IfOk, string_bytes};
 ghost use Rattle.sheet.specs.Outputs.{output_of, file_of};
 

@@ -1,4 +1,6 @@
 // Call sheets at the edges of the format and of the rules, what each prints, and the day files that sheets leave.
+#![tactic(auto)]
+
 use sheet::answer_sheet;
 
 mod days;

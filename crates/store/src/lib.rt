@@ -1,4 +1,6 @@
 // The store of versions: its types, its refusals, its interface.
+#![tactic(auto)]
+
 ghost use Rattle.std.specs.Prelude.{◌≡◌, ℕ};
 ghost use Rattle.store.specs.declared.OpenFault.TheVariants.{Memory};
 ghost use Rattle.store.specs.Meaning.{State, Rules, Inside, begin_of, read_of, read_answer, write_of, commit_of, drop_of, clock_of, size_of, Opens};

@@ -1,4 +1,6 @@
 // A store of versions, of a kind K, over one table of places.
+#![tactic(auto)]
+
 ghost use Rattle.std.specs.Prelude.{◌≡◌, ℕ, ◌+◌, ◌*◌, ◌<◌, ◌≤◌, length};
 ghost use Rattle.store.specs.Meaning.{versions_in, pending_in};
 ghost use Rattle.versions.specs.Tables.{chains_of, room_of, next_of};
