@@ -8,7 +8,7 @@ pub append-requires : goal.append-requires
 append-requires g c =
     let v = c.args.self.now in
     let q = ap length c.pending-pending.ensures.value in
-    let part = total_part v.sessions c.args.console c.in-ok-live.ensures.0 in
+    let part = total_part v.sessions c.args.console c.in_ok-live.ensures.0 in
     let u = v.used in
     let f = v.table.fits in
     let t = v.times in

@@ -13,7 +13,7 @@ use Rattle.versions.proofs.calls.VersionsStore.write.Goals as goal
 pub returns-then-hold-console : goal.returns-then-hold-console
 returns-then-hold-console g c =
     let v = c.args.self.now in
-    let live = c.in-ok-began.ensures in
+    let live = c.in_ok-began.ensures in
     let h = c.in-Some.hold in
     let f = c.in-Some.ensures in
     let own = not_there v.sessions c.args.at h.console h.place f.1 f.2 c.args.console (λ e. omega arith) in
@@ -37,19 +37,19 @@ invariant-of-self g c =
 pub returns-then-not-admits : goal.returns-then-not-admits
 returns-then-not-admits g c =
     let v = c.args.self.now in
-    let live = c.in-ok-began.ensures in
+    let live = c.in_ok-began.ensures in
     let any = c.in-None.ensures in
     let own = none_any (consoles_of v.sessions) c.args.at c.args.console any in
-    let old = ap (λ x. g.K.Kind.rules.admits x.stamp c.in-ok-began.began) (sym c.newest-newest.ensures) ∙ sym c.if-not-admits.ensures in
+    let old = ap (λ x. g.K.Kind.rules.admits x.stamp c.in_ok-began.began) (sym c.newest-newest.ensures) ∙ sym c.if-not-admits.ensures in
     sym (write_stale g.K.Kind.rules (state_of v) c.args.console c.args.at c.args.entry _ live.0 live.1 (omega arith) own any old)
 
 pub returns-then-count-room : goal.returns-then-count-room
 returns-then-count-room g c =
     let v = c.args.self.now in
-    let live = c.in-ok-began.ensures in
+    let live = c.in_ok-began.ensures in
     let any = c.in-None.ensures in
     let own = none_any (consoles_of v.sessions) c.args.at c.args.console any in
-    let new = ap (λ x. g.K.Kind.rules.admits x.stamp c.in-ok-began.began) (sym c.newest-newest.ensures) ∙ sym c.if-not-admits.ensures in
+    let new = ap (λ x. g.K.Kind.rules.admits x.stamp c.in_ok-began.began) (sym c.newest-newest.ensures) ∙ sym c.if-not-admits.ensures in
     sym (write_full g.K.Kind.rules (state_of v) c.args.console c.args.at c.args.entry _ live.0 live.1 (omega arith) own any new (omega arith))
 
 pub invariant-of-self-in-None : goal.invariant-of-self-in-None
@@ -64,7 +64,7 @@ invariant-of-self-in-None g c =
 pub returns-else-hold-console : goal.returns-else-hold-console
 returns-else-hold-console g c =
     let v = c.args.self.now in
-    let live = c.in-ok-began.ensures in
+    let live = c.in_ok-began.ensures in
     let h = c.in-Some.hold in
     let f = c.in-Some.ensures in
     let same : h.console ≡ c.args.console = omega arith in

@@ -29,10 +29,10 @@ invariant-of-self g c =
 pub returns : goal.returns
 returns g c =
     let a = c.args.self.now in
-    let x = c.index-mut-session.result.now in
-    let at = c.index-mut-session.ensures.value in
+    let x = c.index_mut-session.result.now in
+    let at = c.index_mut-session.ensures.value in
     record {
-      consoles = add_is a c.args.console c.requires.near x at _ c.args.at c.len-place.result c.args.entry refl c.push-reserved.ensures.items (omega arith)
+      consoles = add_is a c.args.console c.requires.near x at _ c.args.at c.len-place.result c.args.entry refl c.push_reserved.ensures.items (omega arith)
           c.requires.within c.requires.free c.requires.live;
       records = length-set (vec_items a.holds) c.args.at _;
       room = refl;

@@ -40,11 +40,11 @@ returns-then-pending-place g c =
     let a = c.args.self.now in
     let h = c.index-hold.result.now in
     let x = c.index.result.now in
-    let ps = c.as-slice-pending.result.now in
-    let m = long a c.args.at c.requires h c.index-hold.ensures x c.index.ensures ps c.as-slice-pending.ensures.value in (
+    let ps = c.as_slice-pending.result.now in
+    let m = long a c.args.at c.requires h c.index-hold.ensures x c.index.ensures ps c.as_slice-pending.ensures.value in (
       hold_near a c.args.at c.requires h c.index-hold.ensures,
       omega arith,
-      record-at a c.args.at c.requires h c.index-hold.ensures x c.index.ensures ps c.as-slice-pending.ensures.value c.index-pending-place.result c.if-place-pending.true ∙ c.if-pending-place.true,
+      record-at a c.args.at c.requires h c.index-hold.ensures x c.index.ensures ps c.as_slice-pending.ensures.value c.index-pending-place.result c.if-place-pending.true ∙ c.if-pending-place.true,
     )
 
 pub returns-else-place-pending : goal.returns-else-place-pending
@@ -52,11 +52,11 @@ returns-else-place-pending g c =
     let a = c.args.self.now in
     let h = c.index-hold.result.now in
     let x = c.index.result.now in
-    let ps = c.as-slice-pending.result.now in
-    let m = long a c.args.at c.requires h c.index-hold.ensures x c.index.ensures ps c.as-slice-pending.ensures.value in
+    let ps = c.as_slice-pending.result.now in
+    let m = long a c.args.at c.requires h c.index-hold.ensures x c.index.ensures ps c.as_slice-pending.ensures.value in
     found_none (vec_items a.holds) (consoles_of a) c.args.at h (hold_is a c.args.at c.requires h c.index-hold.ensures) (all_back a)
     (λ l q. elim c.else-place-pending.branch [
       | else-place-pending-via-then-place-pending+else-pending-place w ↦
-          w.if-pending-place.false (sym (record-at a c.args.at c.requires h c.index-hold.ensures x c.index.ensures ps c.as-slice-pending.ensures.value w.index-pending-place.result (omega arith)) ∙ q)
+          w.if-pending-place.false (sym (record-at a c.args.at c.requires h c.index-hold.ensures x c.index.ensures ps c.as_slice-pending.ensures.value w.index-pending-place.result (omega arith)) ∙ q)
       | else-place-pending-via-else-place-pending w ↦ (let t = w.if-place-pending.false in omega arith)
     ])

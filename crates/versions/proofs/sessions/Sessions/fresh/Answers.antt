@@ -8,9 +8,9 @@ use Rattle.versions.proofs.sessions.Sessions.fresh.Goals as goal
 
 pub loop-console-preserved : goal.loop-console-preserved
 loop-console-preserved g c =
-    let v = c.in-ok-pending.pending in
-    let m = c.in-ok-pending.ensures in
-    let p = c.push-reserved.ensures in
+    let v = c.in_ok-pending.pending in
+    let m = c.in_ok-pending.ensures in
+    let p = c.push_reserved.ensures in
     let cap = c.loop-console.invariant.1 in
     let P : List (Session g.row.E.Denot) → Type 0 = λ ds. Shutting c.args.size ds (c.loop-console.-console + 1) in (
       subst P (sym p.items) (shutting_more c.args.size (vec_items c.loop-console.sessions) c.loop-console.-console (record { began = None; pending = v }) c.loop-console.invariant.0 refl m.items m.capacity),
@@ -19,7 +19,7 @@ loop-console-preserved g c =
 
 pub loop-record-preserved : goal.loop-record-preserved
 loop-record-preserved g c =
-    let p = c.push-reserved-in-loop-record.ensures in
+    let p = c.push_reserved-in-loop-record.ensures in
     let inv = c.loop-record.invariant in
     let h : Hold = record { console = 0; place = 0 } in
     let long = ap length p.items ∙ length_push (vec_items c.loop-record.holds) h in

@@ -16,7 +16,7 @@ pub returns : goal.returns
 returns g c =
     let a = c.args.self.now in
     let k = c.args.console in
-    let x = c.index-mut.result.now in
-    let at = c.index-mut.ensures.value in
+    let x = c.index_mut.result.now in
+    let at = c.index_mut.ensures.value in
     let none = sym (session_pending a k c.requires.0 x at) ∙ ap pending_list c.requires.1 in
     record { consoles = open_is a k c.requires.0 x at _ c.args.stamp refl none; records = refl; room = refl }

@@ -8,6 +8,6 @@ use Rattle.versions.proofs.sessions.Sessions.pending.Goals as goal
 pub returns : goal.returns
 returns g c =
     let a = c.args.self.now in
-    let is = c.as-slice.ensures.value ∙ sym (session_pending a c.args.console c.requires c.index.result.now c.index.ensures) in
+    let is = c.as_slice.ensures.value ∙ sym (session_pending a c.args.console c.requires c.index.result.now c.index.ensures) in
     let P : List (Pending g.row.E.Denot) → Type 0 = λ ps. Within (records_of a) ps in
     record { value = is; within = subst P (sym is) (a.listed c.args.console) }

@@ -24,8 +24,8 @@ invariant-of-self g c =
 pub returns : goal.returns
 returns g c =
     let a = c.args.self.now in
-    let x = c.index-mut.result.now in
-    let at = c.index-mut.ensures.value in
+    let x = c.index_mut.result.now in
+    let at = c.index_mut.ensures.value in
     record {
       consoles = replace_is a c.args.hold.console c.requires.1.0 x at _ c.args.at c.args.hold.place c.args.entry refl refl c.requires.1.1 c.requires.1.2;
       records = refl;

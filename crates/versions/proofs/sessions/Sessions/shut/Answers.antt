@@ -28,6 +28,6 @@ pub returns : goal.returns
 returns g c =
     let a = c.args.self.now in
     let k = c.args.console in
-    let x = c.index-mut-session.result.now in
-    let at = c.index-mut-session.ensures.value in
+    let x = c.index_mut-session.result.now in
+    let at = c.index_mut-session.ensures.value in
     record { consoles = shut_is a k c.requires x at _ refl; records = refl; room = refl }

@@ -9,8 +9,8 @@ pub loop-number-preserved : goal.loop-number-preserved
 loop-number-preserved g c =
     let inv = c.loop-number.invariant in
     let more = begun_more c.args.first (vec_items c.loop-number.places) (vec_items c.loop-number.newest) c.loop-number.number inv.0 inv.1 in
-    let p = c.push-reserved.ensures in
-    let q = c.push-reserved-in-loop-number.ensures in (
+    let p = c.push_reserved.ensures in
+    let q = c.push_reserved-in-loop-number.ensures in (
       rw (p.items, q.items) more,
       ap length p.items ∙ length_push (vec_items c.loop-number.places) _ ∙ ap (λ n. n + 1) inv.1,
       omega (arith, p.capacity),
@@ -21,10 +21,10 @@ pub loop-place-init : goal.loop-place-init
 loop-place-init g c =
     let inv = c.loop-number.invariant in
     let end : c.loop-number.number ≡ c.args.size = omega arith in
-    let m = c.in-ok-free.ensures in
+    let m = c.in_ok-free.ensures in
     let P : ℕ → Type 0 = λ n. Begun c.args.first (vec_items c.loop-number.places) (vec_items c.loop-number.newest) n in (
       subst P end inv.0,
-      spread_none (vec_items c.loop-number.places) (vec_items c.in-ok-free.free) c.args.size (inv.1 ∙ end) m.items,
+      spread_none (vec_items c.loop-number.places) (vec_items c.in_ok-free.free) c.args.size (inv.1 ∙ end) m.items,
       inv.2,
       m.capacity,
     )
@@ -32,8 +32,8 @@ loop-place-init g c =
 pub loop-place-preserved : goal.loop-place-preserved
 loop-place-preserved g c =
     let inv = c.loop-place.invariant in
-    let p = c.push-reserved-in-loop-place.ensures in
-    let q = c.push-reserved-in-loop-place-2.ensures in
+    let p = c.push_reserved-in-loop-place.ensures in
+    let q = c.push_reserved-in-loop-place-2.ensures in
     let free = begun_free c.args.first (vec_items c.loop-place.places) (vec_items c.loop-number.newest) c.args.size _ inv.0 in
     let more = spread_more (vec_items c.loop-place.places) (vec_items c.loop-place.free) c.args.size c.loop-place.place inv.1 in
     let B : List (Place g.row.E.Denot) → Type 0 = λ ps. Begun c.args.first ps (vec_items c.loop-number.newest) c.args.size in (
