@@ -53,14 +53,14 @@ after (Ok x) f = f x
 after (Err e) f = Err e
 
 -- one number, two or three, and no more
-abbrev pub one_in : Placed → ℕ → Result ℕ Flaw
-one_in ws e = after (number_at ws e) (λ a. after (end_at (behind ws)) (λ _. Ok a))
+abbrev pub one_of : (ℕ → Request) → Placed → ℕ → Result Request Flaw
+one_of f ws e = after (number_at ws e) (λ a. after (end_at (behind ws)) (λ _. Ok (f a)))
 
-abbrev pub two_in : Placed → ℕ → Result (ℕ × ℕ) Flaw
-two_in ws e = after (number_at ws e) (λ a. after (one_in (behind ws) e) (λ b. Ok (a, b)))
+abbrev pub two_of : (ℕ → ℕ → Request) → Placed → ℕ → Result Request Flaw
+two_of f ws e = after (number_at ws e) (λ a. one_of (f a) (behind ws) e)
 
-abbrev pub three_in : Placed → ℕ → Result (ℕ × ℕ × ℕ) Flaw
-three_in ws e = after (number_at ws e) (λ a. after (two_in (behind ws) e) (λ b. Ok (a, b.0, b.1)))
+abbrev pub three_of : (ℕ → ℕ → ℕ → Request) → Placed → ℕ → Result Request Flaw
+three_of f ws e = after (number_at ws e) (λ a. two_of (f a) (behind ws) e)
 
 -- two numbers, perhaps a kind, and no more
 abbrev pub open_of : Placed → ℕ → Result Request Flaw
@@ -73,11 +73,11 @@ open_of ws e =
 -- the arguments that a verb wants: a console, a record and an entry, as far as it wants them
 abbrev pub args_of : Verb → Placed → ℕ → Result Request Flaw
 args_of verb.Open ws e = open_of ws e
-args_of verb.Begin ws e = after (one_in ws e) (λ k. Ok (Call (Begin k)))
-args_of verb.Read ws e = after (two_in ws e) (λ a. Ok (Call (Read a.0 a.1)))
-args_of verb.Write ws e = after (three_in ws e) (λ a. Ok (Call (Write a.0 a.1 a.2)))
-args_of verb.Commit ws e = after (one_in ws e) (λ k. Ok (Call (Commit k)))
-args_of verb.Drop ws e = after (one_in ws e) (λ k. Ok (Call (Drop k)))
+args_of verb.Begin ws e = one_of (λ k. Call (Begin k)) ws e
+args_of verb.Read ws e = two_of (λ k r. Call (Read k r)) ws e
+args_of verb.Write ws e = three_of (λ k r n. Call (Write k r n)) ws e
+args_of verb.Commit ws e = one_of (λ k. Call (Commit k)) ws e
+args_of verb.Drop ws e = one_of (λ k. Call (Drop k)) ws e
 
 -- a line's request, or its leftmost fault
 abbrev pub request_of : List ℕ → Result Request Flaw

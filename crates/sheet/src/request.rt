@@ -2,7 +2,7 @@
 ghost use Rattle.std.specs.Prelude.{◌≡◌, ℕ, ◌+◌, ◌≤◌, length};
 ghost use Rattle.std.specs.Str.{bytes_eq};
 ghost use Rattle.sheet.specs.Faults.{told};
-ghost use Rattle.sheet.specs.Requests.{verb_of, kind_of, number_at, verb_at, kind_at, end_at, one_in, two_in, three_in, open_of, args_of, request_of};
+ghost use Rattle.sheet.specs.Requests.{verb_of, kind_of, number_at, verb_at, kind_at, end_at, args_of, request_of};
 ghost use Rattle.sheet.specs.Cuts.{behind};
 ghost use Rattle.sheet.specs.Walks.{to_come, line_of};
 
@@ -136,63 +136,49 @@ impl<'a> Words<'a> {
             ),
         }
     }
-
-    // One number, and no more.
-    fn one(&mut self) -> Result<u32, Fault>
-        ensures { told result ≡ one_in (to_come self.old) (length (line_of self.old) + 1) }
-    {
-        let a = self.number()?;
-        self.end()?;
-        Ok(a)
-    }
-
-    fn two(&mut self) -> Result<(u32, u32), Fault>
-        ensures { told result ≡ two_in (to_come self.old) (length (line_of self.old) + 1) }
-    {
-        let a = self.number()?;
-        let b = self.one()?;
-        Ok((a, b))
-    }
-
-    fn three(&mut self) -> Result<(u32, u32, u32), Fault>
-        ensures { told result ≡ three_in (to_come self.old) (length (line_of self.old) + 1) }
-    {
-        let a = self.number()?;
-        let (b, c) = self.two()?;
-        Ok((a, b, c))
-    }
-
-    // Two numbers, perhaps a kind, and no more.
-    fn open(&mut self) -> Result<Request, Fault>
-        ensures { told result ≡ open_of (to_come self.old) (length (line_of self.old) + 1) }
-    {
-        let records = self.number()?;
-        let room = self.number()?;
-        let kind = self.kind()?;
-        self.end()?;
-        Ok(Request::Open(records, room, kind))
-    }
 }
 
 // The arguments that a verb wants, and no more.
 fn args_in(words: &mut Words, verb: Verb) -> Result<Request, Fault>
     ensures { told result ≡ args_of verb (to_come words.old) (length (line_of words.old) + 1) }
 {
-    let call = match verb {
-        Verb::Open => return words.open(),
-        Verb::Begin => Call::Begin(words.one()?),
+    match verb {
+        Verb::Open => {
+            let records = words.number()?;
+            let room = words.number()?;
+            let kind = words.kind()?;
+            words.end()?;
+            Ok(Request::Open(records, room, kind))
+        }
+        Verb::Begin => {
+            let console = words.number()?;
+            words.end()?;
+            Ok(Request::Call(Call::Begin(console)))
+        }
         Verb::Read => {
-            let (console, record) = words.two()?;
-            Call::Read(console, record)
+            let console = words.number()?;
+            let record = words.number()?;
+            words.end()?;
+            Ok(Request::Call(Call::Read(console, record)))
         }
         Verb::Write => {
-            let (console, record, entry) = words.three()?;
-            Call::Write(console, record, entry)
+            let console = words.number()?;
+            let record = words.number()?;
+            let entry = words.number()?;
+            words.end()?;
+            Ok(Request::Call(Call::Write(console, record, entry)))
         }
-        Verb::Commit => Call::Commit(words.one()?),
-        Verb::Drop => Call::Drop(words.one()?),
-    };
-    Ok(Request::Call(call))
+        Verb::Commit => {
+            let console = words.number()?;
+            words.end()?;
+            Ok(Request::Call(Call::Commit(console)))
+        }
+        Verb::Drop => {
+            let console = words.number()?;
+            words.end()?;
+            Ok(Request::Call(Call::Drop(console)))
+        }
+    }
 }
 
 /// What a line asks for, or its leftmost fault.

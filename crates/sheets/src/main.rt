@@ -1,9 +1,8 @@
-// Call sheets at the edges of the format and of the rules, what each prints, and the day files that sheets leave.
+// Call sheets at the edges of the format and of the rules, and what each prints.
 #![tactic(auto)]
 
 use sheet::answer_sheet;
 
-mod days;
 mod faults;
 mod rides;
 
@@ -17,6 +16,5 @@ pub(crate) fn show(rt: HostRuntime, name: &str, sheet: &[u8]) -> anyhow::Result<
 
 fn main(rt: HostRuntime) -> anyhow::Result<()> {
     faults::show_all(rt)?;
-    rides::show_all(rt)?;
-    days::show_all(rt)
+    rides::show_all(rt)
 }

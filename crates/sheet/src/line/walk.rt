@@ -1,5 +1,6 @@
 // The words and the lines in turn.
 ghost use Rattle.std.specs.Prelude.{◌≡◌, ℕ, ◌+◌, ◌-◌, ◌<◌, ◌≤◌, length, IfSome, MatchOption};
+ghost use Rattle.std.specs.Iterator.{at_most};
 ghost use Rattle.sheet.specs.Cuts.{words_of, behind, lines_of};
 ghost use Rattle.sheet.specs.Tokens.{First};
 ghost use Rattle.sheet.specs.Walks.{to_come, line_of, lines_to_come, Stepped};
@@ -60,9 +61,7 @@ impl<'a> Lines<'a> {
 impl<'a> Iterator for Lines<'a> {
     type Item = &'a [u8];
 
-    ghost ends = { λ _. Unit {0} };
-
-    ghost remaining = { λ s. 32769 - s.at };
+    ghost remaining = { λ s. at_most (32769 - s.at) };
 
     ghost next_gives = { λ s r t. Stepped (lines_to_come s) r (lines_to_come t) × IfSome r (λ l. length l.now ≤ 32768) };
 

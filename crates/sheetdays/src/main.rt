@@ -1,4 +1,6 @@
 // The day files that sheets leave, and what is shown of them.
+#![tactic(auto)]
+
 use filing::show_file;
 use sheet::file_sheet;
 use std::io;
@@ -50,8 +52,7 @@ fn behind(rt: HostRuntime) -> anyhow::Result<()> {
     show(rt, "nine bytes", bytes.as_slice())
 }
 
-/// Shows the day files of sheets.
-pub(crate) fn show_all(rt: HostRuntime) -> anyhow::Result<()> {
+fn main(rt: HostRuntime) -> anyhow::Result<()> {
     day(rt, "write skew", SKEW)?;
     day(rt, "no log", b"begin 0\n")?;
     day(rt, "no commit", b"open 256 2048\nbegin 0\nwrite 0 0 1\n")?;
