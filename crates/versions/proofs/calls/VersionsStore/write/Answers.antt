@@ -20,11 +20,11 @@ returns-then-hold-console g c =
     let any = any_some (consoles_of v.sessions) c.args.at h.console (held_here v.sessions c.args.at h.console h.place f.1 f.2) in
     sym (write_held g.K.Kind.rules (state_of v) c.args.console c.args.at c.args.entry _ live.0 live.1 (omega arith) own any)
 
-pub invariant-of-self : goal.invariant-of-self
-invariant-of-self g c =
+pub invariant_of-self : goal.invariant_of-self
+invariant_of-self g c =
     let v = c.args.self.now in
     let e = c.replace.ensures in
-    let live = c.in-ok-began.ensures in
+    let live = c.in_ok-began.ensures in
     let h = c.in-Some.hold in
     let f = c.in-Some.ensures in
     let same : h.console ≡ c.args.console = omega arith in
@@ -52,11 +52,11 @@ returns-then-count-room g c =
     let new = ap (λ x. g.K.Kind.rules.admits x.stamp c.in_ok-began.began) (sym c.newest-newest.ensures) ∙ sym c.if-not-admits.ensures in
     sym (write_full g.K.Kind.rules (state_of v) c.args.console c.args.at c.args.entry _ live.0 live.1 (omega arith) own any new (omega arith))
 
-pub invariant-of-self-in-None : goal.invariant-of-self-in-None
-invariant-of-self-in-None g c =
+pub invariant_of-self-in-None : goal.invariant_of-self-in-None
+invariant_of-self-in-None g c =
     let v = c.args.self.now in
     let e = c.add.ensures in
-    let live = c.in-ok-began.ensures in
+    let live = c.in_ok-began.ensures in
     let t = total_more v.sessions c.args.console live.0 _ live.1 c.args.at c.args.entry c.in-None.ensures in
     let p = ap pending_in e.consoles in
     (v.times, ((e.records ∙ v.alike.0, e.room ∙ v.alike.1), ((let u = v.used in omega arith), tt)))

@@ -17,8 +17,8 @@ module _ {E : Type 0} (a : Sessions E) (k j i : ℕ) (l : j < length (records_at
       let m = ap length is in
       omega arith
 
-pub offset-bounds-pending-hold : goal.offset-bounds-pending-hold
-offset-bounds-pending-hold g c =
+pub offset_bounds-pending-hold : goal.offset_bounds-pending-hold
+offset_bounds-pending-hold g c =
     let l = place_within c.args.self.now c.in-Some.hold.console c.in-Some.hold.place c.args.console c.in-Some.ensures.1 c.if-hold-console.true c.pending-pending.result.now c.pending-pending.ensures.value in
     omega arith
 

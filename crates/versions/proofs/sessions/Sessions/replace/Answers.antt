@@ -5,19 +5,19 @@ use Rattle.store.specs.Consoles.{ats}
 use Rattle.versions.proofs.Kepts.{session_room, session_pending, replace_kept, replace_is}
 use Rattle.versions.proofs.sessions.Sessions.replace.Goals as goal
 
-pub index-mut-requires-2 : goal.index-mut-requires-2
-index-mut-requires-2 g c =
+pub index_mut-requires-2 : goal.index_mut-requires-2
+index_mut-requires-2 g c =
     let a = c.args.self.now in
-    let x = c.index-mut.result.now in
-    let e = ap (λ ps. length (ats ps)) (session_pending a c.args.hold.console c.requires.1.0 x c.index-mut.ensures.value) in
+    let x = c.index_mut.result.now in
+    let e = ap (λ ps. length (ats ps)) (session_pending a c.args.hold.console c.requires.1.0 x c.index_mut.ensures.value) in
     let long = length-map (vec_items x.pending) (λ (p : Pending g.row.E.Denot). p.at) in
     omega (arith, c.requires.1.1)
 
-pub invariant-of-self : goal.invariant-of-self
-invariant-of-self g c =
+pub invariant_of-self : goal.invariant_of-self
+invariant_of-self g c =
     let a = c.args.self.now in
-    let x = c.index-mut.result.now in
-    let at = c.index-mut.ensures.value in
+    let x = c.index_mut.result.now in
+    let at = c.index_mut.ensures.value in
     replace_kept a c.args.hold.console c.requires.1.0 x at _ c.args.at c.args.hold.place c.args.entry refl refl c.requires.1.1 c.requires.1.2
     (session_room a c.args.hold.console c.requires.1.0 x at)
 

@@ -43,8 +43,8 @@ loop-place-preserved g c =
       omega (arith, q.capacity),
     )
 
-pub invariant-of-result : goal.invariant-of-result
-invariant-of-result g c =
+pub invariant_of-result : goal.invariant_of-result
+invariant_of-result g c =
     let inv = c.loop-place.invariant in
     let b = inv.0 in
     let s = inv.1 in

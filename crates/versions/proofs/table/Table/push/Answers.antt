@@ -6,17 +6,17 @@ use Rattle.versions.proofs.table.Table.push.Goals as goal
 pub index-requires : goal.index-requires
 index-requires g c = let l = record-within c.args.self.now c.args.at c.requires.within in omega arith
 
-pub index-mut-requires : goal.index-mut-requires
-index-mut-requires g c =
+pub index_mut-requires : goal.index_mut-requires
+index_mut-requires g c =
     let a = c.args.self.now in
     let l = top_inside (vec_items a.places) (vec_items a.free) (vec_items c.pop.new.self) c.in-Some.place a.inside a.spotted c.in-Some.ensures.items in
     omega arith
 
-pub index-mut-requires-2 : goal.index-mut-requires-2
-index-mut-requires-2 g c = let l = record-within c.args.self.now c.args.at c.requires.within in omega arith
+pub index_mut-requires-2 : goal.index_mut-requires-2
+index_mut-requires-2 g c = let l = record-within c.args.self.now c.args.at c.requires.within in omega arith
 
-pub invariant-of-self : goal.invariant-of-self
-invariant-of-self g c =
+pub invariant_of-self : goal.invariant_of-self
+invariant_of-self g c =
     let a = c.args.self.now in
     let f = a.fits in (
       (f.0, f.1, omega (arith, c.in-Some.ensures.capacity)),
