@@ -9,4 +9,4 @@ invariant_of-self g c =
     let e = c.open.ensures in
     let t = total_clear v.sessions c.args.console c.if-console-ge16.false (Some (record { began = v.clock; pending = [] })) refl in
     let p = ap pending_in e.consoles in
-    (v.times, ((e.records ∙ v.alike.0, e.room ∙ v.alike.1), ((let u = v.used in omega arith), tt)))
+    record { times = v.times; alike = (e.records ∙ v.alike.0, e.room ∙ v.alike.1); used = let u = v.used in omega arith }

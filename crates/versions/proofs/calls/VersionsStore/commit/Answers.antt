@@ -32,4 +32,4 @@ invariant_of-self-2 g c =
     let t = total_clear v.sessions c.args.console c.in_ok-live.ensures.0 None refl in
     let p = ap pending_in s.consoles in
     let low = c.if-self-ge4000.false in
-    ((omega arith, omega arith), ((s.records ∙ v.alike.0 ∙ sym a.size, s.room ∙ v.alike.1 ∙ sym a.room), (omega arith, tt)))
+    record { times = (omega arith, omega arith); alike = (s.records ∙ v.alike.0 ∙ sym a.size, s.room ∙ v.alike.1 ∙ sym a.room); used = omega arith }

@@ -9,4 +9,4 @@ invariant_of-self g c =
     let e = c.shut.ensures in
     let t = total_clear v.sessions c.args.console c.in_ok-live.ensures.0 None refl in
     let p = ap pending_in e.consoles in
-    (v.times, ((e.records ∙ v.alike.0, e.room ∙ v.alike.1), ((let u = v.used in omega arith), tt)))
+    record { times = v.times; alike = (e.records ∙ v.alike.0, e.room ∙ v.alike.1); used = let u = v.used in omega arith }

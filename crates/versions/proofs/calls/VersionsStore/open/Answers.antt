@@ -12,7 +12,7 @@ invariant_of-result g c =
     let long = ap length a.0 ∙ firsts_long c.args.first 0 c.args.size in
     let many = ap versions_in a.0 ∙ firsts_many c.args.first 0 c.args.size in
     let none = ap pending_in d.0 ∙ shut_total g.row.E.Denot 16 in
-    ((omega arith, omega arith), ((d.1 ∙ sym long, d.2 ∙ sym a.1), (omega arith, tt)))
+    record { times = (omega arith, omega arith); alike = (d.1 ∙ sym long, d.2 ∙ sym a.1); used = omega arith }
 
 pub returns-in_err-sessions : goal.returns-in_err-sessions
 returns-in_err-sessions g c =

@@ -32,7 +32,7 @@ invariant_of-self g c =
     ap (λ x. holds (pend_at (consoles_of v.sessions) x) c.args.at) (sym same) ∙ held_here v.sessions c.args.at h.console h.place f.1 f.2 in
     let t = total_same v.sessions c.args.console live.0 _ live.1 c.args.at c.args.entry own in
     let p = ap pending_in (e.consoles ∙ ap (λ x. set (consoles_of v.sessions) x (wrote (get_or (consoles_of v.sessions) x None) c.args.at c.args.entry)) same) in
-    (v.times, ((e.records ∙ v.alike.0, e.room ∙ v.alike.1), ((let u = v.used in omega arith), tt)))
+    record { times = v.times; alike = (e.records ∙ v.alike.0, e.room ∙ v.alike.1); used = let u = v.used in omega arith }
 
 pub returns-then-not-admits : goal.returns-then-not-admits
 returns-then-not-admits g c =
@@ -59,7 +59,7 @@ invariant_of-self-in-None g c =
     let live = c.in_ok-began.ensures in
     let t = total_more v.sessions c.args.console live.0 _ live.1 c.args.at c.args.entry c.in-None.ensures in
     let p = ap pending_in e.consoles in
-    (v.times, ((e.records ∙ v.alike.0, e.room ∙ v.alike.1), ((let u = v.used in omega arith), tt)))
+    record { times = v.times; alike = (e.records ∙ v.alike.0, e.room ∙ v.alike.1); used = let u = v.used in omega arith }
 
 pub returns-else-hold-console : goal.returns-else-hold-console
 returns-else-hold-console g c =

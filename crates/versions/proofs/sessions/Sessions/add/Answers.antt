@@ -23,8 +23,9 @@ invariant_of-self g c =
     let x = c.index_mut-session.result.now in
     let at = c.index_mut-session.ensures.value in
     let cap = session_room a c.args.console c.requires.near x at in
-    add_kept a c.args.console c.requires.near x at _ c.args.at c.len-place.result c.args.entry refl c.push_reserved.ensures.items (omega arith)
-    c.requires.within c.requires.free c.requires.live (omega arith) (omega (arith, c.requires.room, a.counted))
+    let kept = add_kept a c.args.console c.requires.near x at _ c.args.at c.len-place.result c.args.entry refl c.push_reserved.ensures.items (omega arith)
+    c.requires.within c.requires.free c.requires.live (omega arith) (omega (arith, c.requires.room, a.counted)) in
+    record { sixteen = kept.sixteen; reserved = kept.reserved; empty = kept.empty; near = kept.near; listed = kept.listed; held = kept.held; placed = kept.placed; counted = kept.counted }
 
 pub returns : goal.returns
 returns g c =

@@ -38,16 +38,14 @@ invariant_of-result g c =
     let none = shut_records c.args.size ds c.loop-console._console in
     let total = shut_none c.args.size ds c.loop-console._console s in
     let records : c.args.size ≡ length (vec_items c.loop-record.holds) = omega (arith, c.loop-record.invariant.1) in
-    let R : ℕ → Type 0 = λ n. Reserved n ds in (
-      (omega arith, omega arith, c.requires),
-      (
-        subst R records s.reserved,
-        (
-          s.empty,
-          (
-            c.loop-record.invariant.0,
-            ((λ k j h. let z = none k s in absurd (omega arith)), ((λ k j h. let z = none k s in absurd (omega arith)), ((λ k j h. let z = none k s in absurd (omega arith)), (sym total, tt)))),
-          ),
-        ),
-      ),
-    )
+    let R : ℕ → Type 0 = λ n. Reserved n ds in
+    record {
+      sixteen = (omega arith, omega arith, c.requires);
+      reserved = subst R records s.reserved;
+      empty = s.empty;
+      near = c.loop-record.invariant.0;
+      listed = λ k j h. let z = none k s in absurd (omega arith);
+      held = λ k j h. let z = none k s in absurd (omega arith);
+      placed = λ k j h. let z = none k s in absurd (omega arith);
+      counted = sym total;
+    }

@@ -10,7 +10,8 @@ invariant_of-self g c =
     let x = c.index_mut.result.now in
     let at = c.index_mut.ensures.value in
     let none = sym (session_pending a k c.requires.0 x at) ∙ ap pending_list c.requires.1 in
-    clear_kept a k c.requires.0 x at _ a.count a.sixteen.1 (session_room a k c.requires.0 x at) (ap length none) (let z = ap length none in omega arith)
+    let kept = clear_kept a k c.requires.0 x at _ a.count a.sixteen.1 (session_room a k c.requires.0 x at) (ap length none) (let z = ap length none in omega arith) in
+    record { sixteen = kept.sixteen; reserved = kept.reserved; empty = kept.empty; near = kept.near; listed = kept.listed; held = kept.held; placed = kept.placed; counted = kept.counted }
 
 pub returns : goal.returns
 returns g c =

@@ -18,8 +18,9 @@ invariant_of-self g c =
     let a = c.args.self.now in
     let x = c.index_mut.result.now in
     let at = c.index_mut.ensures.value in
-    replace_kept a c.args.hold.console c.requires.1.0 x at _ c.args.at c.args.hold.place c.args.entry refl refl c.requires.1.1 c.requires.1.2
-    (session_room a c.args.hold.console c.requires.1.0 x at)
+    let kept = replace_kept a c.args.hold.console c.requires.1.0 x at _ c.args.at c.args.hold.place c.args.entry refl refl c.requires.1.1 c.requires.1.2
+    (session_room a c.args.hold.console c.requires.1.0 x at) in
+    record { sixteen = kept.sixteen; reserved = kept.reserved; empty = kept.empty; near = kept.near; listed = kept.listed; held = kept.held; placed = kept.placed; counted = kept.counted }
 
 pub returns : goal.returns
 returns g c =

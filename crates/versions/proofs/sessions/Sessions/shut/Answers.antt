@@ -22,7 +22,8 @@ invariant_of-self g c =
     let at = c.index_mut-session.ensures.value in
     let most = session_count a k c.requires x at in
     let cap = session_room a k c.requires x at in
-    clear_kept a k c.requires x at _ (a.count - c.len.result) (omega arith) (omega (arith, c.truncate.ensures.capacity)) (omega (arith, ap length c.truncate.ensures.items)) (omega arith)
+    let kept = clear_kept a k c.requires x at _ (a.count - c.len.result) (omega arith) (omega (arith, c.truncate.ensures.capacity)) (omega (arith, ap length c.truncate.ensures.items)) (omega arith) in
+    record { sixteen = kept.sixteen; reserved = kept.reserved; empty = kept.empty; near = kept.near; listed = kept.listed; held = kept.held; placed = kept.placed; counted = kept.counted }
 
 pub returns : goal.returns
 returns g c =

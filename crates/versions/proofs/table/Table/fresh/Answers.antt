@@ -58,19 +58,19 @@ invariant_of-result g c =
     let high = c.requires.1 in
     let low = c.requires.0 in
     let len = c.loop-place.places.ok.0 in
-    let many = c.loop-number.newest.ok.0 in (
-      (omega (arith, len, long, end, high), omega (arith, many, heads, low, high), omega (arith, len, long, end, cap)),
-      (
-        (λ i j q. absurd (no' i j q)),
-        (
-          (λ i j q. absurd (no' i j q)),
-          (
-            (λ i j q. absurd (no' i j q)),
-            (b.headed, (b.owned, (b.numbered, (s.inside, (s.spotted, (begun_counted c.args.first ps ns (vec_items c.loop-place.free) c.args.size c.loop-place.place b s, tt)))))),
-          ),
-        ),
-      ),
-    )
+    let many = c.loop-number.newest.ok.0 in
+    record {
+      fits = (omega (arith, len, long, end, high), omega (arith, many, heads, low, high), omega (arith, len, long, end, cap));
+      down = λ i j q. absurd (no' i j q);
+      live = λ i j q. absurd (no' i j q);
+      mine = λ i j q. absurd (no' i j q);
+      headed = b.headed;
+      owned = b.owned;
+      numbered = b.numbered;
+      inside = s.inside;
+      spotted = s.spotted;
+      counted = begun_counted c.args.first ps ns (vec_items c.loop-place.free) c.args.size c.loop-place.place b s;
+    }
 
 pub returns : goal.returns
 returns g c =

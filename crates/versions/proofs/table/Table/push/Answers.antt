@@ -18,11 +18,21 @@ index_mut-requires-2 g c = let l = record-within c.args.self.now c.args.at c.req
 pub invariant_of-self : goal.invariant_of-self
 invariant_of-self g c =
     let a = c.args.self.now in
-    let f = a.fits in (
-      (f.0, f.1, omega (arith, c.in-Some.ensures.capacity)),
-      table_kept a c.args.at c.requires.within c.index.result.now c.index.ensures c.in-Some.place (vec_items c.pop.new.self) c.in-Some.ensures.items
-          (record { number = a.next; stamp = c.args.stamp; entry = c.args.entry }) refl,
-    )
+    let f = a.fits in
+    let kept = table_kept a c.args.at c.requires.within c.index.result.now c.index.ensures c.in-Some.place (vec_items c.pop.new.self) c.in-Some.ensures.items
+        (record { number = a.next; stamp = c.args.stamp; entry = c.args.entry }) refl in
+    record {
+      fits = (f.0, f.1, omega (arith, c.in-Some.ensures.capacity));
+      down = kept.down;
+      live = kept.live;
+      mine = kept.mine;
+      headed = kept.headed;
+      owned = kept.owned;
+      numbered = kept.numbered;
+      inside = kept.inside;
+      spotted = kept.spotted;
+      counted = kept.counted;
+    }
 
 pub returns : goal.returns
 returns g c =
