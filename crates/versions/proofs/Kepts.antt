@@ -1,6 +1,6 @@
 -- The sixteen consoles, when one of them changes: what they keep, and what they stand for.
-use Rattle.std.proofs.Common.{◌≡◌, ℕ, zero, suc, ◌+◌, ◌-◌, ◌<◌, ◌≤◌, Bool, true, false, List, [], ◌∷◌, ◌++◌, map, length, get_or, set, Some, None, vec_items, vec_len, vec_capacity, Option, sym, refl, ap, ◌∙◌, subst, inl, inr, arith}
-use Rattle.std.proofs.lemmas.List.{length-set, length-map, map-set, nil_from_length, length_push, set-get_or, map_push}
+use Rattle.std.proofs.Common.{◌≡◌, ℕ, ◌+◌, ◌<◌, ◌≤◌, true, false, List, [], ◌∷◌, ◌++◌, length, get_or, set, Some, None, vec_items, vec_capacity, Option, sym, refl, ap, ◌∙◌, subst, inl, inr, arith}
+use Rattle.std.proofs.lemmas.List.{length-set, length-map, map-set, length_push, set-get_or, map_push}
 use Rattle.std.proofs.lemmas.Bool.{cases_Bool, both_ways}
 use Rattle.store.specs.declared.Pending.{Pending}
 use Rattle.versions.specs.declared.session.Session.{Session}
@@ -8,7 +8,7 @@ use Rattle.versions.specs.declared.session.Hold.{Hold}
 use Rattle.versions.specs.declared.sessions.Sessions.{Sessions}
 use Rattle.store.specs.Meaning.{Console, holds, own_at, replaced, wrote, pending_list, any_holds, pending_in}
 use Rattle.store.specs.Consoles.{ats, pend_at, records_at}
-use Rattle.versions.specs.Session.{hold_at, Near, console_with, console_of, consoles_from, Reserved, spare, Empty, Listed, Held, Placed, Found}
+use Rattle.versions.specs.Session.{hold_at, Near, console_with, console_of, consoles_from, Reserved, spare, Empty, Listed, Held, Placed}
 use Rattle.versions.specs.Sessions.{consoles_of}
 use Rattle.store.proofs.Pendings.{own_is, holds_yes, holds_where, replaced_is, replaced_push, none_any, pending_set, pending_part}
 use Rattle.versions.proofs.Distinct.{room_for_more}

@@ -1,4 +1,4 @@
-use Rattle.std.proofs.Common.{[], Some, sym, refl, ap, ◌∙◌, arith}
+use Rattle.std.proofs.Common.{[], Some, refl, ap, ◌∙◌, arith}
 use Rattle.store.specs.Meaning.{pending_in}
 use Rattle.versions.proofs.Totals.{total_clear}
 use Rattle.versions.proofs.calls.VersionsStore.begin.Goals as goal

@@ -1,4 +1,4 @@
-use Rattle.std.proofs.Common.{◌≡◌, ℕ, length, None, sym, refl, ap, ◌∙◌, subst, arith}
+use Rattle.std.proofs.Common.{ℕ, length, None, sym, refl, ap, ◌∙◌, subst, arith}
 use Rattle.store.specs.Meaning.{pending_in}
 use Rattle.versions.specs.Session.{Within}
 use Rattle.versions.proofs.Totals.{total_clear, total_part}

@@ -1,6 +1,5 @@
-use Rattle.std.proofs.Common.{◌≡◌, ℕ, ◌<◌, true, false, length, get_or, set, Some, None, sym, refl, ap, ◌∙◌, arith}
-use Rattle.store.specs.Refusals.Answer.{gives, refuses}
-use Rattle.store.specs.Meaning.{pending_in, holds, newest_at, wrote, with_console}
+use Rattle.std.proofs.Common.{◌≡◌, ◌<◌, true, length, get_or, set, None, sym, ap, ◌∙◌, arith}
+use Rattle.store.specs.Meaning.{pending_in, holds, wrote}
 use Rattle.store.specs.Consoles.{pend_at}
 use Rattle.versions.specs.Sessions.{consoles_of}
 use Rattle.versions.specs.States.{state_of}

@@ -1,4 +1,4 @@
-use Rattle.std.proofs.Common.{◌≡◌, ◌-◌, ◌<◌, ◌≤◌, length, vec_items, sym, refl, ap, ◌∙◌, arith}
+use Rattle.std.proofs.Common.{◌≤◌, length, vec_items, vec_capacity, refl, arith}
 use Rattle.std.proofs.lemmas.List.{length-set}
 use Rattle.versions.proofs.Kepts.{session_room, session_count, session_short, add_kept, add_is}
 use Rattle.versions.proofs.sessions.Sessions.add.Goals as goal
@@ -23,8 +23,9 @@ invariant_of-self g c =
     let x = c.index_mut-session.result.now in
     let at = c.index_mut-session.ensures.value in
     let cap = session_room a c.args.console c.requires.near x at in
+    let long : length (vec_items a.holds) ≤ vec_capacity c.push_reserved.new.self = omega arith in
     let kept = add_kept a c.args.console c.requires.near x at _ c.args.at c.len-place.result c.args.entry refl c.push_reserved.ensures.items (omega arith)
-    c.requires.within c.requires.free c.requires.live (omega arith) (omega (arith, c.requires.room, a.counted)) in
+    c.requires.within c.requires.free c.requires.live long (omega (arith, c.requires.room, a.counted)) in
     record { sixteen = kept.sixteen; reserved = kept.reserved; empty = kept.empty; near = kept.near; listed = kept.listed; held = kept.held; placed = kept.placed; counted = kept.counted }
 
 pub returns : goal.returns

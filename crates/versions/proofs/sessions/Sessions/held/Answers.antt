@@ -3,7 +3,7 @@ use Rattle.store.specs.Meaning.{own_at}
 use Rattle.std.proofs.lemmas.List.{length-map}
 use Rattle.store.specs.declared.Pending.{Pending}
 use Rattle.versions.specs.declared.sessions.Sessions.{Sessions}
-use Rattle.store.specs.Consoles.{pend_at, records_at, ats}
+use Rattle.store.specs.Consoles.{pend_at, records_at}
 use Rattle.versions.specs.Sessions.{consoles_of}
 use Rattle.store.proofs.Pendings.{own_none, none_any}
 use Rattle.versions.proofs.Kepts.{own_here, not_there}

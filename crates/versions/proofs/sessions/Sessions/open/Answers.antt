@@ -1,6 +1,6 @@
-use Rattle.std.proofs.Common.{◌≡◌, ◌<◌, [], length, vec_items, sym, refl, ap, ◌∙◌, arith}
+use Rattle.std.proofs.Common.{length, sym, refl, ap, ◌∙◌, arith}
 use Rattle.store.specs.Meaning.{pending_list}
-use Rattle.versions.proofs.Kepts.{session_pending, session_room, session_console, clear_kept, open_is}
+use Rattle.versions.proofs.Kepts.{session_pending, session_room, clear_kept, open_is}
 use Rattle.versions.proofs.sessions.Sessions.open.Goals as goal
 
 pub invariant_of-self : goal.invariant_of-self

@@ -1,4 +1,4 @@
-use Rattle.std.proofs.Common.{◌≡◌, ◌-◌, ◌≤◌, length, vec_items, sym, refl, ap, ◌∙◌, arith}
+use Rattle.std.proofs.Common.{length, vec_items, refl, ap, arith}
 use Rattle.std.proofs.lemmas.List.{length-map}
 use Rattle.store.specs.declared.Pending.{Pending}
 use Rattle.store.specs.Consoles.{ats}

@@ -1,4 +1,4 @@
-use Rattle.std.proofs.Common.{◌≡◌, ◌-◌, ◌≤◌, [], length, vec_items, sym, refl, ap, ◌∙◌, arith}
+use Rattle.std.proofs.Common.{◌-◌, length, refl, ap, arith}
 use Rattle.versions.proofs.Kepts.{session_room, session_count, clear_kept, shut_is}
 use Rattle.versions.proofs.sessions.Sessions.shut.Goals as goal
 

@@ -1,8 +1,7 @@
 use Rattle.std.proofs.Common.{◌≡◌, ℕ, ◌+◌, ◌≤◌, List, length, vec_items, sym, refl, ap, ◌∙◌, subst, arith}
 use Rattle.std.proofs.lemmas.List.{length_push}
-use Rattle.store.specs.Meaning.{firsts}
 use Rattle.versions.specs.declared.place.Place.{Place}
-use Rattle.versions.proofs.Starts.{Begun, Spread, begun_more, begun_free, begun_links, begun_counted, spread_none, spread_more}
+use Rattle.versions.proofs.Starts.{Begun, begun_more, begun_free, begun_links, begun_counted, spread_none, spread_more}
 use Rattle.versions.proofs.table.Table.fresh.Goals as goal
 
 pub loop-number-preserved : goal.loop-number-preserved

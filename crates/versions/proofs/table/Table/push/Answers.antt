@@ -1,4 +1,4 @@
-use Rattle.std.proofs.Common.{◌≡◌, ℕ, ◌<◌, length, get_or, vec_items, sym, refl, ap, ◌∙◌, arith}
+use Rattle.std.proofs.Common.{vec_items, refl, arith}
 use Rattle.std.proofs.lemmas.List.{length-set}
 use Rattle.versions.proofs.Ways.{record-within, top_inside, table_chains, table_kept}
 use Rattle.versions.proofs.table.Table.push.Goals as goal
@@ -20,7 +20,7 @@ invariant_of-self g c =
     let a = c.args.self.now in
     let f = a.fits in
     let kept = table_kept a c.args.at c.requires.within c.index.result.now c.index.ensures c.in-Some.place (vec_items c.pop.new.self) c.in-Some.ensures.items
-        (record { number = a.next; stamp = c.args.stamp; entry = c.args.entry }) refl in
+    (record { number = a.next; stamp = c.args.stamp; entry = c.args.entry }) refl in
     record {
       fits = (f.0, f.1, omega (arith, c.in-Some.ensures.capacity));
       down = kept.down;

@@ -1,4 +1,4 @@
-use Rattle.std.proofs.Common.{◌≡◌, [], vec_items, sym, ap, ◌∙◌, arith}
+use Rattle.std.proofs.Common.{sym, ap, ◌∙◌, arith}
 use Rattle.store.specs.Meaning.{origin, picked}
 use Rattle.versions.specs.Places.{link_of}
 use Rattle.versions.specs.Tables.{places_of}
