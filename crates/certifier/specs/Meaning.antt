@@ -1,5 +1,5 @@
 -- What a log means: its state, and what each call answers and leaves. A log is the certifier above a store of its own.
-use Rattle.std.specs.Prelude.{ℕ, ◌+◌, Bool, true, false, cond, not, ◌&&◌, List, [], ◌∷◌, ◌++◌, length, drop, replicate, is_some, nat_le, nat_lt, slice_index_or, slice_set}
+use Rattle.std.specs.Prelude.{ℕ, ◌+◌, Bool, cond, not, ◌&&◌, List, [], ◌∷◌, ◌++◌, length, drop, replicate, is_some, nat_le, nat_lt, slice_index_or, slice_set}
 use Rattle.store.specs.declared.Layer.TheVariants.{Certifier}
 use Rattle.store.specs.declared.Code.{Code}
 use Rattle.store.specs.declared.Version.{Version}

@@ -1,4 +1,4 @@
-use Rattle.std.proofs.Common.{◌≡◌, ℕ, List, ap, ◌∙◌}
+use Rattle.std.proofs.Common.{◌≡◌, ℕ, List}
 use Rattle.store.specs.Meaning.{State}
 use Rattle.certifier.specs.declared.Mark.{Mark}
 use Rattle.certifier.specs.Marking.{Track}

@@ -1,6 +1,6 @@
-use Rattle.std.proofs.Common.{◌≡◌, ℕ, ◌<◌, false, sym, ap, ◌∙◌, rules}
+use Rattle.std.proofs.Common.{◌≡◌, ◌<◌, false, sym, ap, ◌∙◌}
 use Rattle.std.proofs.lemmas.Result.{err_from_is_err_and}
-use Rattle.store.specs.Meaning.{State, shown_by}
+use Rattle.store.specs.Meaning.{shown_by}
 use Rattle.store.specs.Refusals.Answer.{gives}
 use Rattle.certifier.specs.Meaning.{full}
 use Rattle.certifier.specs.Logs.{log_state}

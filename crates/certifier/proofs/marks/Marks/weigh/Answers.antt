@@ -1,4 +1,4 @@
-use Rattle.std.proofs.Common.{◌≡◌, ℕ, max, get_or, vec_items, sym, refl, ap, ◌∙◌, rules}
+use Rattle.std.proofs.Common.{◌≡◌, max, get_or, vec_items, sym, refl, ap, ◌∙◌, rules}
 use Rattle.certifier.specs.declared.Mark.{Mark}
 use Rattle.certifier.specs.Marking.{low_mark, top_stamp, low_or, mark_at}
 use Rattle.certifier.proofs.Folds.{turn, ended}
