@@ -1,4 +1,4 @@
-use Rattle.std.proofs.Common.{◌≡◌, ℕ, List, ap, ◌∙◌}
+use Rattle.std.proofs.Common.{◌≡◌, ℕ, List}
 use Rattle.store.specs.Meaning.{State}
 use Rattle.certifier.specs.declared.Mark.{Mark}
 use Rattle.certifier.specs.Marking.{Track}
@@ -13,6 +13,6 @@ fresh a b c d e = λ i. record { store = a i; places = b i; marks = c i; tracks 
 pub returns : goal.returns
 returns g c =
     let o = c.in-Ok.ensures in
-    let m = c.in-ok-marks.ensures in
-    let r = c.in-ok-ranks.ensures in
+    let m = c.in_ok-marks.ensures in
+    let r = c.in_ok-ranks.ensures in
     (o.0, fresh o.1 (cc) m.0 c.new-tracks.ensures r)

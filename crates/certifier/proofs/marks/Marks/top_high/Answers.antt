@@ -1,6 +1,4 @@
-use Rattle.std.proofs.Common.{ℕ, min, max, List, vec_items, refl, ap, ◌∙◌, rules}
-use Rattle.certifier.specs.declared.Mark.{Mark}
-use Rattle.certifier.specs.declared.Over.{Over}
+use Rattle.std.proofs.Common.{max, vec_items, refl, rules}
 use Rattle.certifier.specs.Marking.{top_high, mark_at}
 use Rattle.certifier.proofs.Folds.{turn, ended}
 use Rattle.certifier.proofs.marks.Marks.top_high.Goals as goal
