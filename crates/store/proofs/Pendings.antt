@@ -1,9 +1,9 @@
 -- Lists of pending entries: which records they name, and what a write makes of them.
-use Rattle.std.proofs.Common.{◌≡◌, ℕ, zero, suc, ◌+◌, ◌-◌, ◌<◌, ◌≤◌, Bool, true, false, cond, ◌||◌, eqb, ◌⊎◌, List, [], ◌∷◌, ◌++◌, map, length, get_or, set, Some, None, Option, sym, refl, ap, ◌∙◌, subst, inl, inr, arith}
-use Rattle.std.proofs.lemmas.Bool.{eqb-true, eqb-false, eq-eqb, ne_eqb, cond-true, cond-false, or_cases, or_parts, or_left, or_right, or_from, cases_Bool, both_ways}
+use Rattle.std.proofs.Common.{◌≡◌, ℕ, zero, suc, ◌+◌, ◌<◌, ◌≤◌, true, false, List, [], ◌∷◌, ◌++◌, length, get_or, set, Some, None, Option, refl, ap, ◌∙◌, inl, inr, arith}
+use Rattle.std.proofs.lemmas.Bool.{eqb-true, eq-eqb, ne_eqb, cond-true, cond-false, or_cases, or_parts, or_left, or_right, or_from, cases_Bool, both_ways}
 use Rattle.store.specs.declared.Pending.{Pending}
 use Rattle.store.specs.Meaning.{Console, own_at, holds, replaced, pending_list, any_holds, pending_in}
-use Rattle.store.specs.Consoles.{pend_at, records_at, ats}
+use Rattle.store.specs.Consoles.{pend_at, ats}
 
 module _ {E : Type 0} where
   pub holds_yes : (ps : List (Pending E)) (r j : ℕ) → j < length (ats ps) → get_or (ats ps) j 0 ≡ r → holds ps r ≡ true

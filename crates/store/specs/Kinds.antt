@@ -1,5 +1,5 @@
 -- The kinds of store, by their rules.
-use Rattle.std.specs.Prelude.{◌≡◌, ℕ, ◌+◌, ◌-◌, Bool, true, false, cond, leb, List, [], ◌∷◌, length, nat_le}
+use Rattle.std.specs.Prelude.{◌≡◌, ℕ, ◌+◌, ◌-◌, Bool, true, cond, leb, List, [], ◌∷◌, length, nat_le}
 use Rattle.store.specs.Meaning.{Rules}
 
 -- the position of the last stamp that passes a test: `best` so far, `at` the position of the next one

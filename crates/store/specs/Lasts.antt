@@ -1,7 +1,7 @@
 -- The last position that passes a test.
-use Rattle.std.specs.Prelude.{◌≡◌, ℕ, zero, suc, ◌+◌, ◌-◌, ◌<◌, ◌≤◌, Bool, true, false, cond, List, [], ◌∷◌, ◌++◌, length, nat_le, refl}
+use Rattle.std.specs.Prelude.{◌≡◌, ℕ, suc, ◌+◌, ◌-◌, ◌<◌, ◌≤◌, Bool, true, false, cond, List, [], ◌∷◌, ◌++◌, length, nat_le, refl}
 use Rattle.std.proofs.Common.{sym, ap, ◌∙◌, arith, add-zero}
-use Rattle.store.specs.Meaning.{Rules, Inside}
+use Rattle.store.specs.Meaning.{Inside}
 use Rattle.store.specs.Kinds.{last_from, last_passing, newest_rules, snapshot_rules, Tested}
 
 pub last_push : (test : ℕ → Bool) (best at : ℕ) (ss : List ℕ) (s : ℕ) → last_from test best at (ss ++ s ∷ []) ≡ cond (test s) (at + length ss) (last_from test best at ss)
@@ -30,3 +30,9 @@ newest_tested (x ∷ xs) began = let all = last_all 0 0 (x ∷ xs) (omega arith)
 
 pub snapshot_inside : Inside snapshot_rules
 snapshot_inside stamps began some low = last_inside (λ s. nat_le s began) stamps some
+
+pub newest_inside : Inside newest_rules
+newest_inside stamps began some low = omega arith
+
+pub snapshot_tested : Tested snapshot_rules nat_le
+snapshot_tested stamps began = refl

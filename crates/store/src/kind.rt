@@ -2,8 +2,7 @@
 ghost use Rattle.std.specs.Prelude.{◌≡◌, ℕ, Bool, true, nat_le};
 ghost use Rattle.store.specs.Meaning.{Rules, Inside};
 ghost use Rattle.store.specs.Kinds.{Tested, newest_rules, snapshot_rules};
-ghost use Rattle.store.specs.Lasts.{newest_tested, snapshot_inside};
-ghost use Rattle.std.proofs.Common.{rules};
+ghost use Rattle.store.specs.Lasts.{newest_inside, newest_tested, snapshot_inside, snapshot_tested};
 
 /// A kind of store: its two rules. A read shows the last version whose stamp passes a test against the begin stamp.
 pub trait Kind: Drop {
@@ -33,7 +32,7 @@ impl Kind for Newest {
 
     ghost test = { λ stamp began. true };
 
-    ghost inside = { Prim.search rules };
+    ghost inside = { newest_inside };
 
     ghost tested = { newest_tested };
 
@@ -57,7 +56,7 @@ impl Kind for Snapshot {
 
     ghost inside = { snapshot_inside };
 
-    ghost tested = { Prim.search rules };
+    ghost tested = { snapshot_tested };
 
     fn shows(stamp: u16, began: u16) -> bool {
         stamp <= began
