@@ -9,4 +9,4 @@ pub returns : goal.returns
 returns c =
     let s = shape_of c.args.file.now in
     let lines = said_text (entries_of s) in
-    IfOk-weaker c.print-entries.result _ _ (λ _ e. e ∙ (ap (λ l. l ++ lines) c.in-ok-print-head.ensures ∙ append_assoc (string_bytes c.args.text.now) (head_text s) lines)) c.print-entries.ensures
+    IfOk-weaker c.print_entries.result _ _ (λ _ e. e ∙ (ap (λ l. l ++ lines) c.in_ok-print_head.ensures ∙ append_assoc (string_bytes c.args.text.now) (head_text s) lines)) c.print_entries.ensures

@@ -16,7 +16,7 @@ pub unreachable-requires : goal.unreachable-requires
 unreachable-requires c =
     let day = c.args.day.now in
     let starts = day_starts (length c.args.buf.now) day.records (omega (arith, c.requires)) day.some day.few in
-    let z : ◌≡◌ {A = ℕ} 0 1 = cc (c.in-default.ensures ∙ starts) in
+    let z : ◌≡◌ {A = ℕ} 0 1 = cc (c.in_default.ensures ∙ starts) in
     omega arith
 
 pub loop-kept-init : goal.loop-kept-init
@@ -24,7 +24,7 @@ loop-kept-init c =
     let day = c.args.day.now in
     let r = day.records in
     let es = commits_of (entries_of day) in
-    let xs = c.as-slice-kept-items.result.now in
+    let xs = c.as_slice-kept-items.result.now in
     let state = c.open-file.ensures.state in
     let w = writer_of c.open-file.result in
     let same = ap (λ (x : Writer). x.bytes) state in
@@ -32,18 +32,18 @@ loop-kept-init c =
     let short : length es ≤ 4000 = omega (arith, commits_long entry_by (vec_items day.entries), day.entries.ok.0, day.short) in
     let all = day_taken (length w.bytes) r es day.some day.few short day.fits room in
     let began = ap (λ (x : Writer). x.extent) state ∙ started_to _ r _ (sym c.in-Ok.ensures) in
-    (refl, filling_start w r (commits_of (map entry_by xs)) all.0 began (ap (λ (l : List _). check_all (length w.bytes) r (commits_of (map entry_by l))) c.as-slice-kept-items.ensures.value ∙ all.1))
+    (refl, filling_start w r (commits_of (map entry_by xs)) all.0 began (ap (λ (l : List _). check_all (length w.bytes) r (commits_of (map entry_by l))) c.as_slice-kept-items.ensures.value ∙ all.1))
 
-pub add-entry-requires : goal.add-entry-requires
-add-entry-requires c =
-    turn_takes entry_by c.as-slice-kept-items.result.now c.open-file.result.buf.now (records_of c.args.day.now) c.loop-kept.kept-index c.kept-item.result c.loop-kept-test.true
+pub add_entry-requires : goal.add_entry-requires
+add_entry-requires c =
+    turn_takes entry_by c.as_slice-kept-items.result.now c.open-file.result.buf.now (records_of c.args.day.now) c.loop-kept.kept-index c.kept-item.result c.loop-kept-test.true
     (writer_of c.loop-kept.file) c.kept-item.result c.kept-item.is c.loop-kept.invariant.1
 
 pub loop-kept-preserved : goal.loop-kept-preserved
 loop-kept-preserved c = (
-  c.add-entry.ensures.lent ∙ c.loop-kept.invariant.0,
-  turn_more entry_by c.as-slice-kept-items.result.now c.open-file.result.buf.now (records_of c.args.day.now) c.loop-kept.kept-index c.kept-item.result c.loop-kept-test.true
-      (writer_of c.loop-kept.file) c.kept-item.result c.kept-item.is c.loop-kept.invariant.1 (writer_of c.add-entry.new.file) c.add-entry.ensures.does,
+  c.add_entry.ensures.lent ∙ c.loop-kept.invariant.0,
+  turn_more entry_by c.as_slice-kept-items.result.now c.open-file.result.buf.now (records_of c.args.day.now) c.loop-kept.kept-index c.kept-item.result c.loop-kept-test.true
+      (writer_of c.loop-kept.file) c.kept-item.result c.kept-item.is c.loop-kept.invariant.1 (writer_of c.add_entry.new.file) c.add_entry.ensures.does,
 )
 
 pub returns : goal.returns
@@ -51,11 +51,11 @@ returns c =
     let day = c.args.day.now in
     let r = day.records in
     let es = commits_of (entries_of day) in
-    let xs = c.as-slice-kept-items.result.now in
+    let xs = c.as_slice-kept-items.result.now in
     let w = writer_of c.loop-kept.file in
     let P : List Commit → Type 0 = λ l. Holds c.open-file.result.buf.now r l w in
     let Q : List ℕ → Type 0 = λ b. Holds b r es w in
-    let ended = ap (λ (l : List _). commits_of (map entry_by l)) (take_all c.loop-kept.kept-index xs (omega arith) ∙ c.as-slice-kept-items.ensures.value) in
+    let ended = ap (λ (l : List _). commits_of (map entry_by l)) (take_all c.loop-kept.kept-index xs (omega arith) ∙ c.as_slice-kept-items.ensures.value) in
     let holds : Holds c.args.buf.now r es w = subst Q (ap (λ (x : Writer). x.bytes) c.open-file.ensures.state) (subst P ended c.loop-kept.invariant.1.holds) in
     let closed = c.close.ensures.does ∙ holds_closed c.args.buf.now r es w holds in
     record {

@@ -8,6 +8,6 @@ use Rattle.sheet.proofs.items.read_lines.Goals as goal
 pub loop-line-preserved : goal.loop-line-preserved
 loop-line-preserved c =
     append_more (map told (vec_items c.loop-line.items)) _ (request_of c.in-Some.line.now ∷ []) _ _ _
-    (ap (map told) c.in-ok-push.ensures.items ∙ map_push told (vec_items c.loop-line.items) c.request-in.result
-    ∙ ap (λ x. map told (vec_items c.loop-line.items) ++ x ∷ []) c.request-in.ensures)
+    (ap (map told) c.in_ok-push.ensures.items ∙ map_push told (vec_items c.loop-line.items) c.request_in.result
+    ∙ ap (λ x. map told (vec_items c.loop-line.items) ++ x ∷ []) c.request_in.ensures)
     (ap (map request_of) c.in-Some.ensures.steps.0) c.loop-line.invariant

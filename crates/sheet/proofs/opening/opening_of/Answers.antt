@@ -4,7 +4,7 @@ use Rattle.sheet.specs.Faults.{told}
 use Rattle.sheet.specs.Stretches.{opening}
 use Rattle.sheet.proofs.opening.opening_of.Goals as goal
 
-pub returns-in-err-first : goal.returns-in-err-first
-returns-in-err-first c =
-    let none : opening (map told c.args.items.now) ≡ None = ap (λ l. opening (map told l)) (nil_from_length c.args.items.now c.in-err-first.ensures.cases) in
-    rw c.from-residual.ensures none
+pub returns-in_err-first : goal.returns-in_err-first
+returns-in_err-first c =
+    let none : opening (map told c.args.items.now) ≡ None = ap (λ l. opening (map told l)) (nil_from_length c.args.items.now c.in_err-first.ensures.cases) in
+    rw c.from_residual.ensures none

@@ -5,14 +5,14 @@ use Rattle.sheet.specs.Stretches.{until_open}
 use Rattle.sheet.proofs.Untils.{until_at}
 use Rattle.sheet.proofs.opening.until_open.Goals as goal
 
-pub returns-then-is-some : goal.returns-then-is-some
-returns-then-is-some c =
-    let stop = until_at c.args.items.now c.loop-i.i _ (omega arith) (c.if-is-some.ensures ∙ ap is_some c.sizes-in.ensures) in
+pub returns-then-is_some : goal.returns-then-is_some
+returns-then-is_some c =
+    let stop = until_at c.args.items.now c.loop-i.i _ (omega arith) (c.if-is_some.ensures ∙ ap is_some c.sizes_in.ensures) in
     omega (arith, c.loop-i.invariant)
 
 pub loop-i-preserved : goal.loop-i-preserved
 loop-i-preserved c =
-    let more = until_at c.args.items.now c.loop-i.i _ (omega arith) (c.if-is-some.ensures ∙ ap is_some c.sizes-in.ensures) in
+    let more = until_at c.args.items.now c.loop-i.i _ (omega arith) (c.if-is_some.ensures ∙ ap is_some c.sizes_in.ensures) in
     omega (arith, c.loop-i.invariant)
 
 pub returns : goal.returns

@@ -16,7 +16,7 @@ loop-item-preserved c =
     let had = vec_items c.loop-item.responses in
     let x = c.respond-response.result.0 in
     let answers = map replied (replies_of c.loop-item.rest.now) in
-    append_more (map told had) _ (told x ∷ []) _ _ _ (ap (map told) c.in-ok-push.ensures.items ∙ map_push told had x)
+    append_more (map told had) _ (told x ∷ []) _ _ _ (ap (map told) c.in_ok-push.ensures.items ∙ map_push told had x)
     (at_drop_more (λ l. beside (map told l) answers) items i (Ok (Open 0 0 Newest)) (omega arith)
     ∙ ap (λ p. p.0 ∷ beside (map told (drop (i + 1) items)) p.1) (sym c.respond-response.ensures))
     c.loop-item.invariant

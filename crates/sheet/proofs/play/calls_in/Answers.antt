@@ -11,7 +11,7 @@ pub loop-item-preserved : goal.loop-item-preserved
 loop-item-preserved c =
     let items = c.args.items.now in
     let i = c.loop-item.item-index in
-    append_more (vec_items c.loop-item.calls) _ (call_in (told (get_or items i (Ok (Open 0 0 Newest))))) _ _ _ c.in-ok-add-call.ensures
+    append_more (vec_items c.loop-item.calls) _ (call_in (told (get_or items i (Ok (Open 0 0 Newest))))) _ _ _ c.in_ok-add_call.ensures
     (at_drop_more (λ l. calls_in (map told l)) items i (Ok (Open 0 0 Newest)) (omega arith)) c.loop-item.invariant
 
 pub returns : goal.returns

@@ -15,8 +15,8 @@ returns-in-Newest c =
     let had = map told (vec_items c.args.responses.now) in
     let kind = sym c.in-Newest.is in
     record {
-      responses = IfOk-weaker c.play-stretch.result _ _ (λ _ e. e ∙ ap (λ (k : LogKind). had ++ Ok Done ∷ responses_of (Some (fresh (rules_of k) o.size o.room)) is) kind) c.play-stretch.ensures.responses;
-      log = IfOk-weaker c.play-stretch.result _ _ (λ _ e. e ∙ ap (λ (k : LogKind). option_map final_of (log_after (Some (fresh (rules_of k) o.size o.room)) is)) kind) c.play-stretch.ensures.log;
+      responses = IfOk-weaker c.play_stretch.result _ _ (λ _ e. e ∙ ap (λ (k : LogKind). had ++ Ok Done ∷ responses_of (Some (fresh (rules_of k) o.size o.room)) is) kind) c.play_stretch.ensures.responses;
+      log = IfOk-weaker c.play_stretch.result _ _ (λ _ e. e ∙ ap (λ (k : LogKind). option_map final_of (log_after (Some (fresh (rules_of k) o.size o.room)) is)) kind) c.play_stretch.ensures.log;
     }
 
 pub returns-in-Snapshot : goal.returns-in-Snapshot
@@ -26,6 +26,6 @@ returns-in-Snapshot c =
     let had = map told (vec_items c.args.responses.now) in
     let kind = sym c.in-Snapshot.is in
     record {
-      responses = IfOk-weaker c.play-stretch-in-Snapshot.result _ _ (λ _ e. e ∙ ap (λ (k : LogKind). had ++ Ok Done ∷ responses_of (Some (fresh (rules_of k) o.size o.room)) is) kind) c.play-stretch-in-Snapshot.ensures.responses;
-      log = IfOk-weaker c.play-stretch-in-Snapshot.result _ _ (λ _ e. e ∙ ap (λ (k : LogKind). option_map final_of (log_after (Some (fresh (rules_of k) o.size o.room)) is)) kind) c.play-stretch-in-Snapshot.ensures.log;
+      responses = IfOk-weaker c.play_stretch-in-Snapshot.result _ _ (λ _ e. e ∙ ap (λ (k : LogKind). had ++ Ok Done ∷ responses_of (Some (fresh (rules_of k) o.size o.room)) is) kind) c.play_stretch-in-Snapshot.ensures.responses;
+      log = IfOk-weaker c.play_stretch-in-Snapshot.result _ _ (λ _ e. e ∙ ap (λ (k : LogKind). option_map final_of (log_after (Some (fresh (rules_of k) o.size o.room)) is)) kind) c.play_stretch-in-Snapshot.ensures.log;
     }

@@ -12,18 +12,18 @@ use Rattle.sheet.proofs.play.play_stretch.Goals as goal
 pub returns-in-Ok : goal.returns-in-Ok
 returns-in-Ok g c =
     let is = map told c.args.items.now in
-    let calls = c.as-slice.result.now in
-    let asked = c.as-slice.ensures.value ∙ c.in-ok-calls.ensures in
+    let calls = c.as_slice.result.now in
+    let asked = c.as_slice.ensures.value ∙ c.in_ok-calls.ensures in
     let had = vec_items c.args.responses.now in
     let run = c.in-Ok.ensures.0 in
     let rules = g.S.Store.rules in
     let played = c.in-Ok.played in
-    let stamps = vec_items c.in-ok-stamps.stamps in
+    let stamps = vec_items c.in_ok-stamps.stamps in
     let entries = entries_of played.day in
     let F : ℕ → Option Final = λ n. Some (record { size = n; stamps = stamps; entries = entries }) in
     record {
-      responses = stretch_responses rules c.args.size c.args.room is c.requires.one-log calls asked (map told had) (map told (vec_items c.push.new.self)) _
-          (replies_of c.as-slice-in-Ok.result.now) (ap replies_of c.as-slice-in-Ok.ensures.value ∙ run.2) (ap (map told) c.in-ok-push.ensures.items ∙ map_push told had (Ok Done)) c.in-ok-add-responses.ensures;
-      log = ap F c.in-Ok.ensures.1 ∙ stretch_final rules c.args.size c.args.room is c.requires.one-log calls asked (log_state g.S.Store.state played.log) (replies_of (vec_items played.answers)) stamps entries
-          run.1 run.2 c.in-ok-stamps.ensures run.4;
+      responses = stretch_responses rules c.args.size c.args.room is c.requires.one_log calls asked (map told had) (map told (vec_items c.push.new.self)) _
+          (replies_of c.as_slice-in-Ok.result.now) (ap replies_of c.as_slice-in-Ok.ensures.value ∙ run.2) (ap (map told) c.in_ok-push.ensures.items ∙ map_push told had (Ok Done)) c.in_ok-add_responses.ensures;
+      log = ap F c.in-Ok.ensures.1 ∙ stretch_final rules c.args.size c.args.room is c.requires.one_log calls asked (log_state g.S.Store.state played.log) (replies_of (vec_items played.answers)) stamps entries
+          run.1 run.2 c.in_ok-stamps.ensures run.4;
     }

@@ -10,7 +10,7 @@ pub loop-i-preserved : goal.loop-i-preserved
 loop-i-preserved c =
     let responses = c.args.responses.now in
     let i = c.loop-i.i in
-    append_more (string_bytes c.loop-i.text) _ (line_text (i + 1) (told (get_or responses i (Ok Done)))) _ _ _ c.in-ok-print-line.ensures
+    append_more (string_bytes c.loop-i.text) _ (line_text (i + 1) (told (get_or responses i (Ok Done)))) _ _ _ c.in_ok-print_line.ensures
     (at_drop_more (λ l. lines_text (i + 1) (map told l)) responses i (Ok Done) (omega arith)) c.loop-i.invariant
 
 pub returns : goal.returns

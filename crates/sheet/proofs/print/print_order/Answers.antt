@@ -7,4 +7,4 @@ pub returns : goal.returns
 returns c =
     let text = string_bytes c.args.text.now in
     let stamps = stamps_text c.args.stamps.now in
-    IfOk-weaker c.print-stamps.result _ _ (λ _ e. e ∙ (ap (λ l. l ++ stamps) c.in-ok-push-str.ensures.bytes ∙ append_assoc text (codes "order") stamps)) c.print-stamps.ensures
+    IfOk-weaker c.print_stamps.result _ _ (λ _ e. e ∙ (ap (λ l. l ++ stamps) c.in_ok-push_str.ensures.bytes ∙ append_assoc text (codes "order") stamps)) c.print_stamps.ensures
