@@ -3,13 +3,13 @@ use Rattle.std.proofs.Common.{◌≡◌, ℕ, ◌+◌, ◌-◌, ◌*◌, ◌<◌
 use Rattle.std.proofs.lemmas.List.{at_drop_more, take_more, take-take, length-map}
 use Rattle.std.proofs.lemmas.Bool.{and_parts, and_from, le-leb, le-ltb, cond-true, cond-false}
 use Rattle.store.specs.Refusals.{Answer}
-use Rattle.store.specs.Refusals.Answer.{gives, refuses}
-use Rattle.dayfile.specs.Format.{Commit, fits, sound, entry_bytes, file_bytes}
+use Rattle.store.specs.Refusals.Answer.{gives}
+use Rattle.dayfile.specs.Format.{Commit, fits, sound, entry_bytes}
 use Rattle.dayfile.proofs.Walks.{fits_came}
-use Rattle.daywriter.specs.Writing.{Extent, Writer, Closed, over, started, start_of, taking, after, added, settled, add_of, close_of}
+use Rattle.daywriter.specs.Writing.{Extent, Writer, started, start_of, taking, after, added, settled, add_of}
 use Rattle.daywriter.specs.Files.{and_then, taken_all, check_all}
 use Rattle.daywriter.proofs.Overs.{length_entry}
-use Rattle.daywriter.proofs.Runs.{Holds, Filling, taken_to, filling_start, filling_takes, filling_more, holds_closed}
+use Rattle.daywriter.proofs.Runs.{Filling, taken_to, filling_takes, filling_more}
 use Rattle.certifier.specs.Entries.{Entry}
 use Rattle.filing.specs.Filing.{commit_of, commits_of}
 

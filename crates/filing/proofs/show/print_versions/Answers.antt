@@ -1,5 +1,5 @@
-use Rattle.std.proofs.Common.{◌≤◌, length, string_bytes, arith, ltb-false, ltb-true}
-use Rattle.filing.proofs.Appends.{append_more, append_all}
+use Rattle.std.proofs.Common.{◌≤◌, length, string_bytes, arith, ltb-false}
+use Rattle.filing.proofs.Appends.{append_more}
 use Rattle.filing.proofs.Shows.{numbers_more}
 use Rattle.filing.proofs.show.print_versions.Goals as goal
 

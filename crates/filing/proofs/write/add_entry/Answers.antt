@@ -1,6 +1,6 @@
-use Rattle.std.proofs.Common.{◌-◌, take, sym, refl, ap, ◌∙◌}
+use Rattle.std.proofs.Common.{◌-◌, take, refl}
 use Rattle.dayfile.specs.Format.{Commit}
-use Rattle.daywriter.specs.Stands.{writer_of, wrote}
+use Rattle.daywriter.specs.Stands.{writer_of}
 use Rattle.daywriter.proofs.Overs.{commit_same}
 use Rattle.certifier.specs.Entries.{entry_by}
 use Rattle.filing.specs.Filing.{commit_of}

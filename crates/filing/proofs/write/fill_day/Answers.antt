@@ -1,9 +1,8 @@
-use Rattle.std.proofs.Common.{◌≡◌, ℕ, ◌+◌, ◌*◌, ◌≤◌, List, map, length, take, vec_items, sym, refl, ap, ◌∙◌, subst, arith}
+use Rattle.std.proofs.Common.{◌≡◌, ℕ, ◌+◌, ◌*◌, ◌≤◌, List, map, length, vec_items, sym, refl, ap, ◌∙◌, subst, arith}
 use Rattle.std.proofs.lemmas.List.{take_all}
-use Rattle.store.specs.Refusals.{Answer}
-use Rattle.certifier.specs.Entries.{Entry, entry_by}
+use Rattle.certifier.specs.Entries.{entry_by}
 use Rattle.dayfile.specs.Format.{Commit}
-use Rattle.daywriter.specs.Writing.{Extent, Writer, Closed, started}
+use Rattle.daywriter.specs.Writing.{Writer, Closed}
 use Rattle.daywriter.specs.Files.{check_all}
 use Rattle.daywriter.specs.Stands.{writer_of}
 use Rattle.daywriter.proofs.Runs.{Holds, filling_start, started_to, holds_closed}

@@ -1,4 +1,4 @@
-use Rattle.std.proofs.Common.{◌≡◌, List, map, take, drop}
+use Rattle.std.proofs.Common.{◌≡◌, map, take, drop}
 use Rattle.certifier.specs.Entries.{entry_by}
 use Rattle.daywriter.specs.Stands.{writer_of}
 use Rattle.daywriter.proofs.Runs.{Filling}

@@ -1,4 +1,4 @@
-use Rattle.std.proofs.Common.{◌≡◌, ◌≤◌, length, drop, sym, ap, ◌∙◌, arith, length-append}
+use Rattle.std.proofs.Common.{◌≤◌, length, ap, ◌∙◌, arith, length-append}
 use Rattle.dayfile.specs.Format.{file_bytes}
 use Rattle.filing.specs.Days.{records_of, entries_of}
 use Rattle.filing.specs.Filing.{commits_of}
