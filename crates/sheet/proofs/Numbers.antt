@@ -1,8 +1,8 @@
 -- Laws of numerals.
-use Rattle.std.proofs.Common.{◌≡◌, ℕ, zero, suc, ◌+◌, ◌-◌, ◌*◌, ◌<◌, ◌≤◌, Bool, true, false, cond, not, ◌&&◌, eqb, ltb, leb, List, [], ◌∷◌, ◌++◌, length, get_or, take, drop, Some, None, Option, sym, refl, ap, ◌∙◌, subst, arith, ltb-true, eq-eqb, ne_eqb, le-leb, leb-true}
-use borrow.Author.Tests.{both_ways, lt-leb}
-use Rattle.std.proofs.lemmas.List.{at_drop_more, at_drop_all, drop_all}
-use Rattle.std.proofs.lemmas.Bool.{and_parts, cases_Bool, cond-true, cond-false, and_right, and_from}
+use Rattle.std.proofs.Common.{◌≡◌, ℕ, zero, suc, ◌+◌, ◌-◌, ◌*◌, ◌<◌, ◌≤◌, true, false, not, ◌&&◌, leb, List, [], ◌∷◌, length, get_or, drop, Some, None, sym, ap, ◌∙◌, subst, arith, le-leb, leb-true}
+use borrow.Author.Tests.{lt-leb}
+use Rattle.std.proofs.lemmas.List.{at_drop_more, at_drop_all}
+use Rattle.std.proofs.lemmas.Bool.{and_parts, cond-true, cond-false, and_right, and_from}
 use Rattle.sheet.specs.Numerals.{is_digit, all_digits, value_from, spare_zero, numeral}
 
 pub digits_more : (xs : List ℕ) (i : ℕ) → i < length xs → true ≡ is_digit (get_or xs i 0) → all_digits (drop (i + 1) xs) ≡ all_digits (drop i xs)

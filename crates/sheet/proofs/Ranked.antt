@@ -1,5 +1,5 @@
 -- The stamps that a log puts into a list that is long enough.
-use Rattle.std.proofs.Common.{◌≡◌, ℕ, ◌≤◌, false, cond, ltb, List, ◌++◌, length, take, drop, sym, refl, ap, ◌∙◌, le-ltb}
+use Rattle.std.proofs.Common.{◌≡◌, ℕ, ◌≤◌, cond, List, ◌++◌, length, take, drop, ap, ◌∙◌, le-ltb}
 use Rattle.std.proofs.lemmas.List.{take_at}
 use Rattle.store.specs.Refusals.{Answer}
 use Rattle.store.specs.Refusals.Answer.{gives, refuses}

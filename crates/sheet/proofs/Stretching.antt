@@ -12,7 +12,7 @@ use Rattle.sheet.specs.declared.request.Request.TheVariants.{Open, Call}
 use Rattle.sheet.specs.declared.response.Success.TheVariants.{Done}
 use Rattle.sheet.specs.Answers.{Item, Response, OpenLog, Log, rules_of, fresh, after_call, replied, accepted, answered, responses_of, log_after}
 use Rattle.sheet.specs.Faults.{no_log, passed}
-use Rattle.sheet.specs.Stretches.{Final, final_of, sizes_of, Opens, until_open, from_open, call_in, calls_in, takes, beside}
+use Rattle.sheet.specs.Stretches.{Final, final_of, sizes_of, Opens, until_open, from_open, calls_in, beside}
 use Rattle.sheet.specs.Printing.{stamps_by_rank}
 use Rattle.sheet.proofs.Untils.{calm, until_from}
 

@@ -1,13 +1,13 @@
 -- The lines before an accepted open, and those from it on.
-use Rattle.std.proofs.Common.{◌≡◌, ℕ, ◌+◌, ◌<◌, ◌≤◌, Bool, true, false, cond, List, [], ◌∷◌, ◌++◌, map, length, get_or, take, drop, is_some, Some, None, Ok, Err, Option, Result, sym, refl, ap, ◌∙◌, arith}
+use Rattle.std.proofs.Common.{◌≡◌, ℕ, ◌+◌, ◌<◌, ◌≤◌, Bool, true, false, cond, List, [], ◌∷◌, ◌++◌, map, length, get_or, take, drop, is_some, None, Ok, Result, sym, refl, ap, ◌∙◌, arith}
 use Rattle.std.proofs.lemmas.List.{at_drop_more}
 use Rattle.sheet.specs.declared.fault.Fault.{Fault}
 use Rattle.sheet.specs.declared.request.Request.{Request}
 use Rattle.sheet.specs.declared.request.LogKind.TheVariants.{Newest}
-use Rattle.sheet.specs.declared.request.Request.TheVariants.{Open, Call}
-use Rattle.sheet.specs.Answers.{Item, accepted}
+use Rattle.sheet.specs.declared.request.Request.TheVariants.{Open}
+use Rattle.sheet.specs.Answers.{Item}
 use Rattle.sheet.specs.Faults.{told}
-use Rattle.sheet.specs.Stretches.{sizes_of, opening, Opens, until_open, from_open}
+use Rattle.sheet.specs.Stretches.{sizes_of, opening, until_open, from_open}
 
 -- how far the until_open lines go, from a place on: one more, or none
 pub until_at : (items : List (Result Request Fault)) (i : ℕ) (b : Bool) → i < length items → b ≡ is_some (sizes_of (told (get_or items i (Ok (Open 0 0 Newest)))))

@@ -1,4 +1,4 @@
-use Rattle.std.proofs.Common.{◌+◌, ◌-◌, ◌*◌, get_or, drop, sym, refl, ap, ◌∙◌, arith}
+use Rattle.std.proofs.Common.{◌+◌, ◌-◌, ◌*◌, get_or, drop, sym, ◌∙◌, arith}
 use Rattle.sheet.proofs.Numbers.{digits_at, value_ge, value_more, value_done, too_large, is_number}
 use Rattle.sheet.proofs.numeral.number.Goals as goal
 

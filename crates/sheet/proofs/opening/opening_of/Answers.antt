@@ -1,4 +1,4 @@
-use Rattle.std.proofs.Common.{◌≡◌, map, None, sym, ap, ◌∙◌}
+use Rattle.std.proofs.Common.{◌≡◌, map, None, ap}
 use Rattle.std.proofs.lemmas.List.{nil_from_length}
 use Rattle.sheet.specs.Faults.{told}
 use Rattle.sheet.specs.Stretches.{opening}

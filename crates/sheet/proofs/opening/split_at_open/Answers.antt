@@ -1,4 +1,4 @@
-use Rattle.std.proofs.Common.{map, length, take, drop, sym, ap, ◌∙◌, arith}
+use Rattle.std.proofs.Common.{map, take, drop, sym, ap, ◌∙◌, arith}
 use lib.ListN.{length-map}
 use Rattle.std.proofs.lemmas.List.{take-map, drop-map}
 use Rattle.sheet.specs.Faults.{told}

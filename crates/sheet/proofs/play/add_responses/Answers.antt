@@ -1,11 +1,11 @@
-use Rattle.std.proofs.Common.{◌≡◌, ◌+◌, [], ◌∷◌, map, get_or, drop, Ok, vec_items, sym, ap, ◌∙◌, arith}
+use Rattle.std.proofs.Common.{◌+◌, [], ◌∷◌, map, drop, Ok, vec_items, sym, ap, ◌∙◌, arith}
 use Rattle.std.proofs.lemmas.List.{at_drop_more, at_drop_all, map_push}
 use Rattle.runs.specs.Outcomes.{replies_of}
 use Rattle.sheet.specs.declared.request.LogKind.TheVariants.{Newest}
 use Rattle.sheet.specs.declared.request.Request.TheVariants.{Open}
 use Rattle.sheet.specs.Answers.{replied}
 use Rattle.sheet.specs.Faults.{told}
-use Rattle.sheet.specs.Stretches.{takes, beside}
+use Rattle.sheet.specs.Stretches.{beside}
 use Rattle.filing.proofs.Appends.{append_more, append_all}
 use Rattle.sheet.proofs.play.add_responses.Goals as goal
 

@@ -1,10 +1,10 @@
-use Rattle.std.proofs.Common.{◌≡◌, [], ◌∷◌, ◌++◌, map, length, Some, None, Ok, vec_items, sym, refl, ap, ◌∙◌, append_assoc, arith}
+use Rattle.std.proofs.Common.{◌≡◌, [], ◌∷◌, ◌++◌, map, length, Some, None, Ok, vec_items, sym, refl, ap, ◌∙◌, arith}
 use lib.ListN.{length-map}
 use Rattle.std.specs.Option.{option_map}
 use Rattle.sheet.specs.declared.response.Success.TheVariants.{Done}
 use Rattle.sheet.specs.Answers.{rules_of, fresh, responses_of, log_after}
 use Rattle.sheet.specs.Faults.{told}
-use Rattle.sheet.specs.Stretches.{final_of, until_open, from_open, beside}
+use Rattle.sheet.specs.Stretches.{final_of, until_open, beside}
 use Rattle.filing.proofs.Appends.{append_more, append_all}
 use Rattle.sheet.proofs.Untils.{calm, until_none, none_left, from_short}
 use Rattle.sheet.proofs.Stretching.{before_responses, before_log, turn_responses, turn_log}

@@ -13,4 +13,4 @@ returns g c =
     let end : n - 0 ≡ c.in-Ok.count = omega (arith, c.from.ensures) in
     let stamps : take (n - 0) list ≡ stamps_by_rank (log_state g.S.Store.state log) =
     ap (λ k. take k list) end ∙ order_stamps (log_state g.S.Store.state log) (replicate 4000 0) list c.in-Ok.count c.in-Ok.ensures log.ranks.day log.ranks.counted in
-    IfOk-weaker c.from_slice.result _ _ (λ _ e. e.0 ∙ stamps) c.from_slice.ensures.made
+    IfOk-weaker c.from_slice.result _ _ (λ _ e. e ∙ stamps) c.from_slice.ensures.items

@@ -1,4 +1,4 @@
-use Rattle.std.proofs.Common.{◌≡◌, ◌++◌, string_bytes, codes, ap, ◌∙◌, append_assoc}
+use Rattle.std.proofs.Common.{◌++◌, string_bytes, codes, ap, ◌∙◌, append_assoc}
 use Rattle.std.proofs.lemmas.Result.{IfOk-weaker}
 use Rattle.sheet.specs.Printing.{stamps_text}
 use Rattle.sheet.proofs.print.print_order.Goals as goal

@@ -1,4 +1,4 @@
-use Rattle.std.proofs.Common.{sym, ap, ◌∙◌, arith}
+use Rattle.std.proofs.Common.{arith}
 use Rattle.sheet.proofs.Pieces.{fore_more, fore_stop, fore_end}
 use Rattle.sheet.proofs.token.end_of.Goals as goal
 

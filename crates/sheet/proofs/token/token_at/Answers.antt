@@ -1,4 +1,4 @@
-use Rattle.std.proofs.Common.{sym, refl, ap, ◌∙◌, arith, true-eqb}
+use Rattle.std.proofs.Common.{refl, true-eqb}
 use Rattle.std.proofs.lemmas.List.{nil_from_length}
 use Rattle.sheet.proofs.token.token_at.Goals as goal
 

@@ -1,4 +1,4 @@
-use Rattle.std.proofs.Common.{◌+◌, length, sym, refl, ap, ◌∙◌, arith}
+use Rattle.std.proofs.Common.{◌+◌, length, refl, arith}
 use Rattle.sheet.proofs.Pieces.{end_within, next_word, next_rest}
 use Rattle.sheet.proofs.line.Words.next.Goals as goal
 
