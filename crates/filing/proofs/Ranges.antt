@@ -1,10 +1,13 @@
 -- What is kept of the commits of a run fits a day file.
-use Rattle.std.proofs.Common.{◌≡◌, ℕ, suc, ◌+◌, ◌<◌, true, eqb, ltb, List, [], ◌∷◌, ◌++◌, length, get_or, sym, refl, ap, ◌∙◌, subst, arith}
+use Rattle.std.proofs.Common.{◌≡◌, ℕ, suc, ◌+◌, ◌<◌, ◌≤◌, true, eqb, ltb, List, [], ◌∷◌, ◌++◌, length, get_or, sym, refl, ap, ◌∙◌, subst, arith}
 use Rattle.std.proofs.lemmas.Bool.{and_parts, and_from, or_left, or_right, eq-eqb, lt-ltb, le-leb}
+use Rattle.std.proofs.lemmas.List.{length-map}
+use Rattle.store.specs.Meaning.{Rules}
 use Rattle.certifier.specs.Marking.{member}
+use Rattle.certifier.specs.Meaning.{LogState}
 use Rattle.certifier.specs.Entries.{Entry}
-use Rattle.runs.specs.History.{Transaction, read_in, overwritten_in, entry_of, entries_in}
-use Rattle.runs.specs.Law.{InRange, AllInRange, made_in}
+use Rattle.runs.specs.History.{Transaction, Event, read_in, overwritten_in, entry_of, entries_in, summary_of}
+use Rattle.runs.specs.Law.{InRange, AllInRange, Lawful, made_in}
 use Rattle.dayfile.specs.Format.{Commit, below, fits, sound}
 use Rattle.filing.specs.Filing.{commit_of, commits_of}
 
@@ -79,3 +82,13 @@ module _ {E : Type 0} where
       let P : ℕ → Type 0 = λ b. fits (1 + length (kept ts)) b (commit_of (entry_of t)) ≡ true in
       let Q : List Commit → Type 0 = λ l. sound 1 size l ≡ true in
       subst Q (sym (push_commit (entries_in ts) (entry_of t))) (sound_push (kept ts) (commit_of (entry_of t)) 1 size s (subst P (sym (made_kept size ts)) f))
+
+  -- what is kept of a lawful history is no longer than a day, and fits a day file
+  pub day_kept : {rules : Rules} {size room : ℕ} {first : E} {s : LogState E} {h : List (Event E)} (es : List Entry) → Lawful rules size room first s h
+      → es ≡ entries_in (summary_of size h).done → (length es ≤ 4000) × (sound 1 size (commits_of es) ≡ true)
+  day_kept {size = size} {h = h} es law e =
+      let done = (summary_of size h).done in
+      let long = ap (λ (l : List Entry). length (commits_of l)) e ∙ length_kept done in
+      let same = length-map es commit_of in
+      let P : List Entry → Type 0 = λ l. sound 1 size (commits_of l) ≡ true in
+      (omega (arith, long, same, law.day), subst P (sym e) (kept_sound size done law.entries law.rank.stamps))
