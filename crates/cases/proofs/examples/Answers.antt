@@ -55,8 +55,5 @@ file = refl
 small : TooSmall
 small = refl
 
-pub returns : goal.returns
-returns c = record {
-  stand = record { skew = skew; alarm = alarm; snapshot = snapshot; equal = equal; back = back; empty = empty; stale = stale; newest = newest; held = held; own = own; room = room; file = file; small = small };
-  count = refl;
-}
+pub returns-clause-stand : goal.returns-clause-stand
+returns-clause-stand c = record { skew = skew; alarm = alarm; snapshot = snapshot; equal = equal; back = back; empty = empty; stale = stale; newest = newest; held = held; own = own; room = room; file = file; small = small }
