@@ -1,9 +1,9 @@
-use Rattle.std.proofs.Common.{◌≡◌, ◌<◌, false, sym, ap, ◌∙◌}
+use Rattle.std.proofs.Common.{◌≡◌, ◌<◌, false, sym, ap, ◌∙◌, rules}
 use Rattle.std.proofs.lemmas.Result.{err_from_is_err_and}
 use Rattle.store.specs.Meaning.{shown_by}
 use Rattle.store.specs.Refusals.Answer.{gives}
 use Rattle.certifier.specs.Meaning.{full}
-use Rattle.certifier.specs.Logs.{log_state}
+use Rattle.certifier.specs.Logs.{log_state, tracks_of}
 use Rattle.certifier.specs.Entries.{track_of}
 use Rattle.certifier.proofs.Steps.{near_open, write_full, write_ok, write_refused, few_written, own_written}
 use Rattle.certifier.proofs.log.Log.write.Goals as goal
@@ -37,7 +37,8 @@ returns g c =
       | then-is_full+in_ok-read+in-Own w ↦ own_written g.S.Store.rules s k r w.in-Own.field-0 (ap (λ x. gives (shown_by x)) (sym w.in-Own.is) ∙ w.in_ok-read.ensures) lt
       | else-is_full w ↦ few_written g.S.Store.rules s k r (track_of c.at.result.now) _ c.at.ensures c.is_full.ensures w.if-is_full.false lt
     ] in
-    write_ok g.S.Store.rules s k r c.args.entry c.in_ok-version.version _ _ room c.in_ok-version.ensures (cc)
+    let ok = write_ok g.S.Store.rules s k r c.args.entry c.in_ok-version.version _ (tracks_of c.write-2.new.self) room c.in_ok-version.ensures in
+    search (rules, ok)
 
 pub write-requires-2 : goal.write-requires-2
 write-requires-2 g c = near_open (g.S.Store.state c.args.self.now.store) c.args.console _ _ _ _ c.in_ok-version.ensures
