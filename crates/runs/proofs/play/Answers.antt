@@ -1,4 +1,4 @@
-use Rattle.std.proofs.Common.{◌+◌, List, ◌++◌, map, drop, vec_items, sym, ap, ◌∙◌, rules}
+use Rattle.std.proofs.Common.{◌+◌, List, ◌++◌, map, drop, vec_items, sym, ap, ◌∙◌}
 use Rattle.std.specs.Option.{option_map}
 use Rattle.std.proofs.lemmas.List.{map_push}
 use Rattle.std.proofs.lemmas.Result.{IfOk-from_err}
@@ -21,20 +21,20 @@ loop-call-preserved g c =
     let a = reply_of c.apply-answer.result in
     let at = c.call-item.is in
     let e = c.apply-answer.ensures ∙ ap (step rules s) at in
-    let more = entry_for d a (option_map track_of c.track-for-track.result) in (
-      ap (λ (xs : List (Reply g.row.E.Denot)). xs ++ answers_of rules s' (drop (i + 1) calls)) (ap replies_of c.in-ok-push.ensures.items ∙ map_push reply_of (vec_items c.loop-call.answers) c.apply-answer.result)
+    let more = entry_for d a (option_map track_of c.track_for-track.result) in (
+      ap (λ (xs : List (Reply g.row.E.Denot)). xs ++ answers_of rules s' (drop (i + 1) calls)) (ap replies_of c.in_ok-push.ensures.items ∙ map_push reply_of (vec_items c.loop-call.answers) c.apply-answer.result)
           ∙ answers_turn rules s s' calls i a _ _ d c.loop-call-test.true e c.loop-call.invariant.0,
       after_turn rules s s' calls i a _ d c.loop-call-test.true e c.loop-call.invariant.1,
-      ap (λ (xs : List Entry). xs ++ filed_in rules s' (drop (i + 1) calls)) c.in-ok-keep.ensures
+      ap (λ (xs : List Entry). xs ++ filed_in rules s' (drop (i + 1) calls)) c.in_ok-keep.ensures
           ∙ filed_turn rules s s' calls i a _ _ more d c.loop-call-test.true e
-          (ap (entry_for d a) c.track-for-track.ensures ∙ ap (λ (x : Call g.row.E.Denot). entry_for x a (track_for s x)) at) c.loop-call.invariant.2,
+          (ap (entry_for d a) c.track_for-track.ensures ∙ ap (λ (x : Call g.row.E.Denot). entry_for x a (track_for s x)) at) c.loop-call.invariant.2,
     )
 
-pub returns-in-err-keep : goal.returns-in-err-keep
-returns-in-err-keep g c = IfOk-from_err c.from-residual-in-err-keep.result _ c.from-residual-in-err-keep.ensures.0
+pub returns-in_err-keep : goal.returns-in_err-keep
+returns-in_err-keep g c = IfOk-from_err c.from_residual-in_err-keep.result _ c.from_residual-in_err-keep.ensures.0
 
-pub returns-in-err-push : goal.returns-in-err-push
-returns-in-err-push g c = IfOk-from_err c.from-residual-in-err-push.result _ c.from-residual-in-err-push.ensures.0
+pub returns-in_err-push : goal.returns-in_err-push
+returns-in_err-push g c = IfOk-from_err c.from_residual-in_err-push.result _ c.from_residual-in_err-push.ensures.0
 
 pub returns : goal.returns
 returns g c =
@@ -43,7 +43,7 @@ returns g c =
     let calls = c.args.calls.now in
     let i = c.loop-call.call-index in
     record {
-      replied = answers_end rules s s calls i _ _ (search rules) c.loop-call.invariant.0;
-      left = after_end rules s s calls i _ (search rules) c.loop-call.invariant.1;
-      filed = filed_end rules s s calls i _ _ (search rules) c.loop-call.invariant.2;
+      replied = answers_end rules s s calls i _ _ c.loop-call-test.false c.loop-call.invariant.0;
+      left = after_end rules s s calls i _ c.loop-call-test.false c.loop-call.invariant.1;
+      filed = filed_end rules s s calls i _ _ c.loop-call-test.false c.loop-call.invariant.2;
     }

@@ -6,8 +6,8 @@ use Rattle.runs.proofs.run.Goals as goal
 
 pub returns : goal.returns
 returns g c =
-    let o = c.in-ok-log.ensures in
-    let p = c.in-ok-played.ensures in
+    let o = c.in_ok-log.ensures in
+    let p = c.in_ok-played.ensures in
     let rules = g.S.Store.rules in
     let law = g.met.S.Store.inside in
     let calls = c.args.calls.now in
