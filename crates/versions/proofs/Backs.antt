@@ -1,14 +1,14 @@
 -- What the consoles keep, when one of them changes.
-use Rattle.std.proofs.Common.{◌≡◌, ℕ, zero, suc, ◌+◌, ◌-◌, ◌<◌, ◌≤◌, Bool, true, false, cond, ◌||◌, ◌≢◌, ◌⊎◌, List, [], ◌∷◌, ◌++◌, map, length, get_or, set, Some, None, vec_items, vec_len, vec_capacity, Option, sym, refl, ap, ◌∙◌, subst, inl, inr, arith}
-use Rattle.std.proofs.lemmas.List.{get_or-set_same, get_or-set_other, length-set, length-map, get_or-map, map-set, nil_from_length, length_push, get_or_push, get_or_append_left, set-get_or, map_push}
+use Rattle.std.proofs.Common.{◌≡◌, ℕ, ◌<◌, ◌≤◌, false, ◌≢◌, List, [], ◌∷◌, ◌++◌, length, get_or, set, Some, None, vec_items, vec_capacity, Option, sym, refl, ap, ◌∙◌, subst, inl, inr, arith}
+use Rattle.std.proofs.lemmas.List.{get_or-set_same, get_or-set_other, length-set, get_or-map, nil_from_length, length_push, get_or_push, get_or_append_left}
 use Rattle.std.proofs.lemmas.Bool.{cases_eq, cases_Bool, both_ways}
 use Rattle.store.specs.declared.Pending.{Pending}
 use Rattle.versions.specs.declared.session.Session.{Session}
 use Rattle.versions.specs.declared.session.Hold.{Hold}
-use Rattle.store.specs.Meaning.{Console, holds, own_at, replaced, wrote, pending_list, any_holds, pending_in}
+use Rattle.store.specs.Meaning.{Console, holds, pending_list, any_holds}
 use Rattle.store.specs.Consoles.{ats, pend_at, records_at}
-use Rattle.versions.specs.Session.{hold_at, Near, console_with, console_of, consoles_from, Reserved, spare, Empty, Listed, Held, Placed, Found}
-use Rattle.store.proofs.Pendings.{holds_yes, holds_where, own_is, own_none, replaced_is, replaced_push, any_none, any_some, none_any, pending_set, pending_part}
+use Rattle.versions.specs.Session.{hold_at, Near, console_with, console_of, consoles_from, Reserved, spare, Empty, Listed, Held, Placed}
+use Rattle.store.proofs.Pendings.{holds_yes, holds_where, any_none, none_any}
 
 -- the records of console k lead back to their places
 abbrev pub Back : List Hold → ℕ → List ℕ → Type 0

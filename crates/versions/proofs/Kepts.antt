@@ -1,6 +1,6 @@
 -- The sixteen consoles, when one of them changes: what they keep, and what they stand for.
-use Rattle.std.proofs.Common.{◌≡◌, ℕ, zero, suc, ◌+◌, ◌-◌, ◌<◌, ◌≤◌, Bool, true, false, List, [], ◌∷◌, ◌++◌, map, length, get_or, set, Some, None, vec_items, vec_len, vec_capacity, Option, sym, refl, ap, ◌∙◌, subst, inl, inr, arith}
-use Rattle.std.proofs.lemmas.List.{length-set, length-map, map-set, nil_from_length, length_push, set-get_or, map_push}
+use Rattle.std.proofs.Common.{◌≡◌, ℕ, ◌+◌, ◌<◌, ◌≤◌, true, false, List, [], ◌∷◌, ◌++◌, length, get_or, set, Some, None, vec_items, vec_capacity, Option, sym, refl, ap, ◌∙◌, subst, inl, inr, arith}
+use Rattle.std.proofs.lemmas.List.{length-set, length-map, map-set, length_push, set-get_or, map_push}
 use Rattle.std.proofs.lemmas.Bool.{cases_Bool, both_ways}
 use Rattle.store.specs.declared.Pending.{Pending}
 use Rattle.versions.specs.declared.session.Session.{Session}
@@ -8,16 +8,22 @@ use Rattle.versions.specs.declared.session.Hold.{Hold}
 use Rattle.versions.specs.declared.sessions.Sessions.{Sessions}
 use Rattle.store.specs.Meaning.{Console, holds, own_at, replaced, wrote, pending_list, any_holds, pending_in}
 use Rattle.store.specs.Consoles.{ats, pend_at, records_at}
-use Rattle.versions.specs.Session.{hold_at, Near, console_with, console_of, consoles_from, Reserved, spare, Empty, Listed, Held, Placed, Found}
+use Rattle.versions.specs.Session.{hold_at, Near, console_with, console_of, consoles_from, Reserved, spare, Empty, Listed, Held, Placed}
 use Rattle.versions.specs.Sessions.{consoles_of}
 use Rattle.store.proofs.Pendings.{own_is, holds_yes, holds_where, replaced_is, replaced_push, none_any, pending_set, pending_part}
 use Rattle.versions.proofs.Distinct.{room_for_more}
 use Rattle.versions.proofs.Backs.{Back, Backs, backs, near_set, reserved_set, empty_set, with_list, console_is, pend_is, backs_set, backs_add, only}
 
 module _ {E : Type 0} where
-  abbrev pub Kept : ℕ → ℕ → ℕ → List (Session E) → List Hold → Type 0
-  Kept n room count ds hs =
-      ((n ≡ 16) × (count ≤ room) × (room ≤ 2048)) × (Reserved (length hs) ds × (Empty ds × (Near hs × (Listed hs (consoles_from ds) × (Held hs (consoles_from ds) × (Placed hs (consoles_from ds) × ((count ≡ pending_in (consoles_from ds)) × Unit {0})))))))
+  pub record Kept (n room count : ℕ) (ds : List (Session E)) (hs : List Hold) : Type 0 where
+    pub sixteen : (n ≡ 16) × (count ≤ room) × (room ≤ 2048)
+    pub reserved : Reserved (length hs) ds
+    pub empty : Empty ds
+    pub near : Near hs
+    pub listed : Listed hs (consoles_from ds)
+    pub held : Held hs (consoles_from ds)
+    pub placed : Placed hs (consoles_from ds)
+    pub counted : count ≡ pending_in (consoles_from ds)
 
   spare_long : (b : Option ℕ) (ps qs : List (Pending E)) → length ps ≡ length qs → spare b ps ≡ 0 → spare b qs ≡ 0
   spare_long None ps qs e h = sym e ∙ h
@@ -99,19 +105,17 @@ module _ {E : Type 0} where
         let same = ap pending_in is in
         let c = a.counted in
         let s = a.sixteen in
-        let R : ℕ → Type 0 = λ n. Reserved n (set (vec_items a.sessions) k y) in (
-          (s.0, most, s.2),
-          (
-            subst R long (reserved_set (length (vec_items a.holds)) (vec_items a.sessions) k y a.reserved cap),
-            (
-              empty_set (vec_items a.sessions) k y a.empty free,
-              (
-                near,
-                ((λ i j h. (b i j h).0), ((λ i j h. (b i j h).1), ((λ i j h. (b i j h).2), (omega arith, tt)))),
-              ),
-            ),
-          ),
-        )
+        let R : ℕ → Type 0 = λ n. Reserved n (set (vec_items a.sessions) k y) in
+        record {
+          sixteen = (s.0, most, s.2);
+          reserved = subst R long (reserved_set (length (vec_items a.holds)) (vec_items a.sessions) k y a.reserved cap);
+          empty = empty_set (vec_items a.sessions) k y a.empty free;
+          near = near;
+          listed = λ i j h. (b i j h).0;
+          held = λ i j h. (b i j h).1;
+          placed = λ i j h. (b i j h).2;
+          counted = omega arith;
+        }
 
     -- nothing is pending at the console after
     pub clear_kept : (y : Session E) (count : ℕ) → count ≤ a.room → length (vec_items a.holds) ≤ vec_capacity y.pending → length (vec_items y.pending) ≡ 0 → count + length (vec_items x.pending) ≡ a.count

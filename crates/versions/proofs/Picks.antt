@@ -1,11 +1,11 @@
 -- The version that a read rule shows, found along the links from the newest.
-use Rattle.std.proofs.Common.{◌≡◌, ℕ, zero, suc, ◌+◌, ◌-◌, ◌<◌, ◌≤◌, Bool, true, false, cond, List, [], ◌∷◌, ◌++◌, map, length, get_or, Some, None, Option, sym, refl, ap, ◌∙◌, arith}
-use Rattle.std.proofs.lemmas.List.{get_or_append_left, get_or_push, length_push, length-map, map_push}
+use Rattle.std.proofs.Common.{◌≡◌, ℕ, ◌+◌, ◌<◌, Bool, true, false, cond, List, [], ◌∷◌, ◌++◌, length, get_or, Some, None, sym, refl, ap, ◌∙◌, arith}
+use Rattle.std.proofs.lemmas.List.{get_or_append_left, get_or_push, length-map, map_push}
 use Rattle.std.proofs.lemmas.Bool.{cond-true, cond-false}
 use Rattle.store.specs.declared.Version.{Version}
 use Rattle.versions.specs.declared.place.Row.{Row}
 use Rattle.versions.specs.declared.place.Place.{Place}
-use Rattle.versions.specs.declared.place.Place.TheVariants.{Free, Used}
+use Rattle.versions.specs.declared.place.Place.TheVariants.{Used}
 use Rattle.store.specs.Meaning.{Rules, picked, stamps_of}
 use Rattle.versions.specs.Places.{depth_of, link_of, place_at, depth, link, walk, chain_from, Down, Live}
 use Rattle.store.specs.Kinds.{last_passing, Tested}

@@ -1,14 +1,13 @@
 -- A store as it is opened: its table row by row, its consoles one by one.
-use Rattle.std.proofs.Common.{◌≡◌, ℕ, zero, suc, ◌+◌, ◌-◌, ◌<◌, ◌≤◌, List, [], ◌∷◌, ◌++◌, map, length, get_or, set, Some, None, vec_items, vec_len, vec_capacity, Option, sym, refl, ap, ◌∙◌, subst, inl, inr, add-zero, add-one, arith}
-use Rattle.std.proofs.lemmas.List.{get_or_append_left, get_or_push, length_push, map_push, length-map, get_or_past}
+use Rattle.std.proofs.Common.{◌≡◌, ℕ, zero, suc, ◌+◌, ◌-◌, ◌<◌, ◌≤◌, List, [], ◌∷◌, ◌++◌, map, length, get_or, Some, None, vec_items, vec_capacity, Option, sym, refl, ap, ◌∙◌, subst, inl, inr, add-zero, add-one, arith}
+use Rattle.std.proofs.lemmas.List.{get_or_append_left, get_or_push, length_push, map_push, get_or_past}
 use Rattle.std.proofs.lemmas.Bool.{cases_eq, cases_order}
 use Rattle.store.specs.declared.Version.{Version}
-use Rattle.versions.specs.declared.place.Row.{Row}
 use Rattle.versions.specs.declared.place.Place.{Place}
 use Rattle.versions.specs.declared.place.Place.TheVariants.{Free, Used}
 use Rattle.versions.specs.declared.session.Session.{Session}
 use Rattle.versions.specs.declared.session.Hold.{Hold}
-use Rattle.store.specs.Meaning.{Console, origin, versions_in, firsts, shut_all, pending_in, pending_list}
+use Rattle.store.specs.Meaning.{versions_in, firsts, shut_all, pending_in, pending_list}
 use Rattle.versions.specs.Places.{depth_of, link_of, record_of, spot_of, version_of, place_at, depth, link, walk, chain_from, chains_from, Headed, Owned, Numbered, Inside, Spotted, Counted}
 use Rattle.store.specs.Consoles.{records_at}
 use Rattle.versions.specs.Session.{hold_at, Near, console_of, consoles_from, Reserved, spare, Empty}

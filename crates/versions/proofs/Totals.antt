@@ -1,7 +1,7 @@
 -- How many entries are pending, when one console changes.
-use Rattle.std.proofs.Common.{◌≡◌, ℕ, zero, suc, ◌+◌, ◌-◌, ◌<◌, ◌≤◌, Bool, true, false, cond, eqb, List, [], ◌∷◌, ◌++◌, length, get_or, set, Some, None, Option, sym, refl, ap, ◌∙◌, inl, inr, arith}
+use Rattle.std.proofs.Common.{◌≡◌, ℕ, suc, ◌+◌, ◌<◌, ◌≤◌, true, false, eqb, List, [], ◌∷◌, length, get_or, set, Some, None, Option, refl, ap, ◌∙◌, inl, inr, arith}
 use Rattle.std.proofs.lemmas.List.{length_push}
-use Rattle.std.proofs.lemmas.Bool.{or_cases, or_parts, cases_Bool, cond-true, cond-false, both_ways}
+use Rattle.std.proofs.lemmas.Bool.{or_cases, cases_Bool, cond-true, cond-false, both_ways}
 use Rattle.store.specs.declared.Pending.{Pending}
 use Rattle.versions.specs.declared.sessions.Sessions.{Sessions}
 use Rattle.store.specs.Meaning.{Console, holds, replaced, wrote, pending_list, pending_in, any_holds}

@@ -1,5 +1,5 @@
 -- The chains that the places stand for, when a free place is taken.
-use Rattle.std.proofs.Common.{◌≡◌, ℕ, zero, suc, ◌+◌, ◌-◌, ◌<◌, ◌≤◌, ◌≢◌, List, [], ◌∷◌, ◌++◌, map, length, get_or, take, set, Some, None, vec_items, vec_capacity, Option, sym, refl, ap, ◌∙◌, subst, inl, inr, arith}
+use Rattle.std.proofs.Common.{◌≡◌, ℕ, zero, suc, ◌+◌, ◌-◌, ◌<◌, ◌≤◌, ◌≢◌, List, [], ◌∷◌, ◌++◌, length, get_or, set, Some, None, vec_items, Option, sym, refl, ap, ◌∙◌, inl, inr, arith}
 use Rattle.std.proofs.lemmas.List.{get_or-set_same, get_or-set_other, length-set, length-map, get_or-map, map-set, length_push, get_or_push, get_or_append_left, get_or_past, get_or_read}
 use Rattle.std.proofs.lemmas.Bool.{cases_eq, cases_lt}
 use Rattle.store.specs.declared.Version.{Version}
@@ -206,6 +206,18 @@ module _ {E : Type 0} where
       ap (λ c. get_or c (length c - 1) d) chain
       ∙ get_or_push (walk e ps row.version.number row.older) row.version d _ (let k = length_push (walk e ps row.version.number row.older) row.version in omega arith)
 
+  -- what a table keeps of its places, its newest versions and its free places
+  pub record TableKept (e : E) (next : ℕ) (ps : List (Place E)) (newest free : List ℕ) : Type 0 where
+    pub down : Down ps
+    pub live : Live ps
+    pub mine : Mine ps
+    pub headed : Headed ps newest
+    pub owned : Owned ps newest
+    pub numbered : Numbered next ps
+    pub inside : Inside ps free
+    pub spotted : Spotted ps free
+    pub counted : Counted e ps newest free
+
   module _ (a : Table E) (r : ℕ) (l : r < length (chains_of a)) where
     pub record-within : r < length (vec_items a.newest)
     record-within = let n = length-map (vec_items a.newest) (chain_from a.first (vec_items a.places)) in omega arith
@@ -254,30 +266,15 @@ module _ {E : Type 0} where
             let k = ap length q ∙ length_push rest i in
             let c = a.counted in omega arith
 
-        pub table_kept : Down (set ps i taken) × (Live (set ps i taken) × (Mine (set ps i taken) × (Headed (set ps i taken) (set ns r i) × (Owned (set ps i taken) (set ns r i) × (Numbered (a.next + 1) (set ps i taken)
-            × (Inside (set ps i taken) rest × (Spotted (set ps i taken) rest × (Counted a.first (set ps i taken) (set ns r i) rest × Unit {0}))))))))
-        table_kept = (
-          down_push a.first ps ns a.next a.down a.live a.mine a.headed a.owned a.numbered i r h v record-within head_is in_at zero_at number,
-          (
-            live_push a.first ps ns a.next a.down a.live a.mine a.headed a.owned a.numbered i r h v record-within head_is in_at zero_at number,
-            (
-              mine_push a.first ps ns a.next a.down a.live a.mine a.headed a.owned a.numbered i r h v record-within head_is in_at zero_at number,
-              (
-                headed_push a.first ps ns a.next a.down a.live a.mine a.headed a.owned a.numbered i r h v record-within head_is in_at zero_at number,
-                (
-                  owned_push a.first ps ns a.next a.down a.live a.mine a.headed a.owned a.numbered i r h v record-within head_is in_at zero_at number,
-                  (
-                    numbered_push a.first ps ns a.next a.down a.live a.mine a.headed a.owned a.numbered i r h v record-within head_is in_at zero_at number,
-                    (
-                      inside_pop ps (vec_items a.free) rest i a.inside a.spotted q taken,
-                      (
-                        spotted_pop ps (vec_items a.free) rest i a.inside a.spotted q taken,
-                        (table_counted, tt),
-                      ),
-                    ),
-                  ),
-                ),
-              ),
-            ),
-          ),
-        )
+        pub table_kept : TableKept a.first (a.next + 1) (set ps i taken) (set ns r i) rest
+        table_kept = record {
+          down = down_push a.first ps ns a.next a.down a.live a.mine a.headed a.owned a.numbered i r h v record-within head_is in_at zero_at number;
+          live = live_push a.first ps ns a.next a.down a.live a.mine a.headed a.owned a.numbered i r h v record-within head_is in_at zero_at number;
+          mine = mine_push a.first ps ns a.next a.down a.live a.mine a.headed a.owned a.numbered i r h v record-within head_is in_at zero_at number;
+          headed = headed_push a.first ps ns a.next a.down a.live a.mine a.headed a.owned a.numbered i r h v record-within head_is in_at zero_at number;
+          owned = owned_push a.first ps ns a.next a.down a.live a.mine a.headed a.owned a.numbered i r h v record-within head_is in_at zero_at number;
+          numbered = numbered_push a.first ps ns a.next a.down a.live a.mine a.headed a.owned a.numbered i r h v record-within head_is in_at zero_at number;
+          inside = inside_pop ps (vec_items a.free) rest i a.inside a.spotted q taken;
+          spotted = spotted_pop ps (vec_items a.free) rest i a.inside a.spotted q taken;
+          counted = table_counted;
+        }

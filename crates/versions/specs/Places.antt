@@ -1,9 +1,8 @@
 -- How a record's chain is read off the places. A version's depth is its number plus one, a free place has depth 0,
 -- and a link leads to a lower depth: so the way from a place has as many steps as its depth, at most.
-use Rattle.std.specs.Prelude.{◌≡◌, ℕ, zero, suc, ◌+◌, ◌-◌, ◌<◌, ◌≤◌, List, [], ◌∷◌, ◌++◌, map, length, Some, None, Option, slice_index, slice_index_or}
+use Rattle.std.specs.Prelude.{◌≡◌, ℕ, zero, suc, ◌+◌, ◌<◌, ◌≤◌, List, [], ◌∷◌, ◌++◌, map, length, Some, None, Option, slice_index, slice_index_or}
 use Rattle.store.specs.declared.Version.{Version}
 use Rattle.store.specs.Meaning.{origin, versions_in}
-use Rattle.versions.specs.declared.place.Row.{Row}
 use Rattle.versions.specs.declared.place.Place.{Place}
 use Rattle.versions.specs.declared.place.Place.TheVariants.{Free, Used}
 

@@ -1,5 +1,5 @@
 -- What the consoles keep.
-use Rattle.std.specs.Prelude.{◌≡◌, ℕ, zero, suc, ◌+◌, ◌-◌, ◌<◌, ◌≤◌, Bool, true, false, List, [], ◌∷◌, ◌++◌, map, length, get_or, Some, None, Ok, Err, vec_items, vec_len, vec_capacity, Option, Result, slice_index, slice_index_or}
+use Rattle.std.specs.Prelude.{◌≡◌, ℕ, ◌<◌, ◌≤◌, false, List, map, length, get_or, Some, None, Ok, Err, vec_items, vec_capacity, Option, Result, slice_index, slice_index_or}
 use Rattle.store.specs.declared.Refusal.{Refusal}
 use Rattle.store.specs.declared.Pending.{Pending}
 use Rattle.versions.specs.declared.session.Session.{Session}

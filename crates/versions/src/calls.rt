@@ -1,7 +1,6 @@
 ghost use Rattle.std.specs.Prelude.{◌≡◌};
 ghost use Rattle.store.specs.Meaning.{Opens};
 ghost use Rattle.versions.specs.States.{state_of};
-ghost use Rattle.std.proofs.Common.{rules, arith};
 
 use crate::Versions;
 use crate::sessions::Sessions;
@@ -16,7 +15,7 @@ impl<E: Copy, K: Kind> Store<E> for Versions<E, K> {
 
     ghost state = { state_of };
 
-    ghost inside = { first_of (Prim.search rules, Prim.grind (arith, Self.row.coded.inj)) };
+    ghost inside = { K.Kind.inside };
 
     fn open(heap: Global, size: u32, room: u32, first: E) -> Result<Versions<E, K>, OpenFault>
         ensures { Opens state_of size room first result }

@@ -1,4 +1,4 @@
-use Rattle.std.proofs.Common.{◌≡◌, ℕ, length, None, sym, refl, ap, ◌∙◌, subst, arith}
+use Rattle.std.proofs.Common.{ℕ, length, None, sym, refl, ap, ◌∙◌, subst, arith}
 use Rattle.store.specs.Meaning.{pending_in}
 use Rattle.versions.specs.Session.{Within}
 use Rattle.versions.proofs.Totals.{total_clear, total_part}
@@ -19,17 +19,17 @@ append-requires g c =
       numbers = omega arith;
     }
 
-pub invariant-of-self-2 : goal.invariant-of-self-2
-invariant-of-self-2 g c =
+pub invariant_of-self-2 : goal.invariant_of-self-2
+invariant_of-self-2 g c =
     let v = c.args.self.now in
     let q = ap length c.pending-pending.ensures.value in
-    let part = total_part v.sessions c.args.console c.in-ok-live.ensures.0 in
+    let part = total_part v.sessions c.args.console c.in_ok-live.ensures.0 in
     let u = v.used in
     let f = v.table.fits in
     let time = v.times in
     let s = c.shut.ensures in
     let a = c.append.ensures in
-    let t = total_clear v.sessions c.args.console c.in-ok-live.ensures.0 None refl in
+    let t = total_clear v.sessions c.args.console c.in_ok-live.ensures.0 None refl in
     let p = ap pending_in s.consoles in
     let low = c.if-self-ge4000.false in
-    ((omega arith, omega arith), ((s.records ∙ v.alike.0 ∙ sym a.size, s.room ∙ v.alike.1 ∙ sym a.room), (omega arith, tt)))
+    record { times = (omega arith, omega arith); alike = (s.records ∙ v.alike.0 ∙ sym a.size, s.room ∙ v.alike.1 ∙ sym a.room); used = omega arith }

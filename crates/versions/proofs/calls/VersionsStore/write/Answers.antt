@@ -1,6 +1,5 @@
-use Rattle.std.proofs.Common.{◌≡◌, ℕ, ◌<◌, true, false, length, get_or, set, Some, None, sym, refl, ap, ◌∙◌, arith}
-use Rattle.store.specs.Refusals.Answer.{gives, refuses}
-use Rattle.store.specs.Meaning.{pending_in, holds, newest_at, wrote, with_console}
+use Rattle.std.proofs.Common.{◌≡◌, ◌<◌, true, length, get_or, set, None, sym, ap, ◌∙◌, arith}
+use Rattle.store.specs.Meaning.{pending_in, holds, wrote}
 use Rattle.store.specs.Consoles.{pend_at}
 use Rattle.versions.specs.Sessions.{consoles_of}
 use Rattle.versions.specs.States.{state_of}
@@ -20,11 +19,11 @@ returns-then-hold-console g c =
     let any = any_some (consoles_of v.sessions) c.args.at h.console (held_here v.sessions c.args.at h.console h.place f.1 f.2) in
     sym (write_held g.K.Kind.rules (state_of v) c.args.console c.args.at c.args.entry _ live.0 live.1 (omega arith) own any)
 
-pub invariant-of-self : goal.invariant-of-self
-invariant-of-self g c =
+pub invariant_of-self : goal.invariant_of-self
+invariant_of-self g c =
     let v = c.args.self.now in
     let e = c.replace.ensures in
-    let live = c.in-ok-began.ensures in
+    let live = c.in_ok-began.ensures in
     let h = c.in-Some.hold in
     let f = c.in-Some.ensures in
     let same : h.console ≡ c.args.console = omega arith in
@@ -32,7 +31,7 @@ invariant-of-self g c =
     ap (λ x. holds (pend_at (consoles_of v.sessions) x) c.args.at) (sym same) ∙ held_here v.sessions c.args.at h.console h.place f.1 f.2 in
     let t = total_same v.sessions c.args.console live.0 _ live.1 c.args.at c.args.entry own in
     let p = ap pending_in (e.consoles ∙ ap (λ x. set (consoles_of v.sessions) x (wrote (get_or (consoles_of v.sessions) x None) c.args.at c.args.entry)) same) in
-    (v.times, ((e.records ∙ v.alike.0, e.room ∙ v.alike.1), ((let u = v.used in omega arith), tt)))
+    record { times = v.times; alike = (e.records ∙ v.alike.0, e.room ∙ v.alike.1); used = let u = v.used in omega arith }
 
 pub returns-then-not-admits : goal.returns-then-not-admits
 returns-then-not-admits g c =
@@ -52,14 +51,14 @@ returns-then-count-room g c =
     let new = ap (λ x. g.K.Kind.rules.admits x.stamp c.in_ok-began.began) (sym c.newest-newest.ensures) ∙ sym c.if-not-admits.ensures in
     sym (write_full g.K.Kind.rules (state_of v) c.args.console c.args.at c.args.entry _ live.0 live.1 (omega arith) own any new (omega arith))
 
-pub invariant-of-self-in-None : goal.invariant-of-self-in-None
-invariant-of-self-in-None g c =
+pub invariant_of-self-in-None : goal.invariant_of-self-in-None
+invariant_of-self-in-None g c =
     let v = c.args.self.now in
     let e = c.add.ensures in
-    let live = c.in-ok-began.ensures in
+    let live = c.in_ok-began.ensures in
     let t = total_more v.sessions c.args.console live.0 _ live.1 c.args.at c.args.entry c.in-None.ensures in
     let p = ap pending_in e.consoles in
-    (v.times, ((e.records ∙ v.alike.0, e.room ∙ v.alike.1), ((let u = v.used in omega arith), tt)))
+    record { times = v.times; alike = (e.records ∙ v.alike.0, e.room ∙ v.alike.1); used = let u = v.used in omega arith }
 
 pub returns-else-hold-console : goal.returns-else-hold-console
 returns-else-hold-console g c =

@@ -1,4 +1,4 @@
-use Rattle.std.proofs.Common.{◌≡◌, ℕ, ◌+◌, ◌≤◌, List, [], ◌∷◌, ◌++◌, length, None, vec_items, sym, refl, ap, ◌∙◌, subst, arith}
+use Rattle.std.proofs.Common.{◌≡◌, ℕ, ◌+◌, List, length, None, vec_items, sym, refl, ap, ◌∙◌, subst, arith}
 use Rattle.std.proofs.lemmas.List.{length_push}
 use Rattle.versions.specs.declared.session.Hold.{Hold}
 use Rattle.versions.specs.declared.session.Session.{Session}
@@ -12,8 +12,8 @@ loop-console-preserved g c =
     let m = c.in_ok-pending.ensures in
     let p = c.push_reserved.ensures in
     let cap = c.loop-console.invariant.1 in
-    let P : List (Session g.row.E.Denot) → Type 0 = λ ds. Shutting c.args.size ds (c.loop-console.-console + 1) in (
-      subst P (sym p.items) (shutting_more c.args.size (vec_items c.loop-console.sessions) c.loop-console.-console (record { began = None; pending = v }) c.loop-console.invariant.0 refl m.items m.capacity),
+    let P : List (Session g.row.E.Denot) → Type 0 = λ ds. Shutting c.args.size ds (c.loop-console._console + 1) in (
+      subst P (sym p.items) (shutting_more c.args.size (vec_items c.loop-console.sessions) c.loop-console._console (record { began = None; pending = v }) c.loop-console.invariant.0 refl m.items m.capacity),
       omega (arith, p.capacity),
     )
 
@@ -29,25 +29,23 @@ loop-record-preserved g c =
       omega (arith, p.capacity),
     )
 
-pub invariant-of-result : goal.invariant-of-result
-invariant-of-result g c =
+pub invariant_of-result : goal.invariant_of-result
+invariant_of-result g c =
     let ds = vec_items c.loop-console.sessions in
     let s = c.loop-console.invariant.0 in
     let long = s.long in
     let end = c.loop-console.auto in
-    let none = shut_records c.args.size ds c.loop-console.-console in
-    let total = shut_none c.args.size ds c.loop-console.-console s in
+    let none = shut_records c.args.size ds c.loop-console._console in
+    let total = shut_none c.args.size ds c.loop-console._console s in
     let records : c.args.size ≡ length (vec_items c.loop-record.holds) = omega (arith, c.loop-record.invariant.1) in
-    let R : ℕ → Type 0 = λ n. Reserved n ds in (
-      (omega arith, omega arith, c.requires),
-      (
-        subst R records s.reserved,
-        (
-          s.empty,
-          (
-            c.loop-record.invariant.0,
-            ((λ k j h. let z = none k s in absurd (omega arith)), ((λ k j h. let z = none k s in absurd (omega arith)), ((λ k j h. let z = none k s in absurd (omega arith)), (sym total, tt)))),
-          ),
-        ),
-      ),
-    )
+    let R : ℕ → Type 0 = λ n. Reserved n ds in
+    record {
+      sixteen = (omega arith, omega arith, c.requires);
+      reserved = subst R records s.reserved;
+      empty = s.empty;
+      near = c.loop-record.invariant.0;
+      listed = λ k j h. let z = none k s in absurd (omega arith);
+      held = λ k j h. let z = none k s in absurd (omega arith);
+      placed = λ k j h. let z = none k s in absurd (omega arith);
+      counted = sym total;
+    }

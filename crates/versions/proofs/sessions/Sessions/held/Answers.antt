@@ -3,7 +3,7 @@ use Rattle.store.specs.Meaning.{own_at}
 use Rattle.std.proofs.lemmas.List.{length-map}
 use Rattle.store.specs.declared.Pending.{Pending}
 use Rattle.versions.specs.declared.sessions.Sessions.{Sessions}
-use Rattle.store.specs.Consoles.{pend_at, records_at, ats}
+use Rattle.store.specs.Consoles.{pend_at, records_at}
 use Rattle.versions.specs.Sessions.{consoles_of}
 use Rattle.store.proofs.Pendings.{own_none, none_any}
 use Rattle.versions.proofs.Kepts.{own_here, not_there}
@@ -17,8 +17,8 @@ module _ {E : Type 0} (a : Sessions E) (k j i : ℕ) (l : j < length (records_at
       let m = ap length is in
       omega arith
 
-pub offset-bounds-pending-hold : goal.offset-bounds-pending-hold
-offset-bounds-pending-hold g c =
+pub offset_bounds-pending-hold : goal.offset_bounds-pending-hold
+offset_bounds-pending-hold g c =
     let l = place_within c.args.self.now c.in-Some.hold.console c.in-Some.hold.place c.args.console c.in-Some.ensures.1 c.if-hold-console.true c.pending-pending.result.now c.pending-pending.ensures.value in
     omega arith
 

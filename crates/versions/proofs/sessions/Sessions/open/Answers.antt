@@ -1,16 +1,17 @@
-use Rattle.std.proofs.Common.{◌≡◌, ◌<◌, [], length, vec_items, sym, refl, ap, ◌∙◌, arith}
+use Rattle.std.proofs.Common.{length, sym, refl, ap, ◌∙◌, arith}
 use Rattle.store.specs.Meaning.{pending_list}
-use Rattle.versions.proofs.Kepts.{session_pending, session_room, session_console, clear_kept, open_is}
+use Rattle.versions.proofs.Kepts.{session_pending, session_room, clear_kept, open_is}
 use Rattle.versions.proofs.sessions.Sessions.open.Goals as goal
 
-pub invariant-of-self : goal.invariant-of-self
-invariant-of-self g c =
+pub invariant_of-self : goal.invariant_of-self
+invariant_of-self g c =
     let a = c.args.self.now in
     let k = c.args.console in
-    let x = c.index-mut.result.now in
-    let at = c.index-mut.ensures.value in
+    let x = c.index_mut.result.now in
+    let at = c.index_mut.ensures.value in
     let none = sym (session_pending a k c.requires.0 x at) ∙ ap pending_list c.requires.1 in
-    clear_kept a k c.requires.0 x at _ a.count a.sixteen.1 (session_room a k c.requires.0 x at) (ap length none) (let z = ap length none in omega arith)
+    let kept = clear_kept a k c.requires.0 x at _ a.count a.sixteen.1 (session_room a k c.requires.0 x at) (ap length none) (let z = ap length none in omega arith) in
+    record { sixteen = kept.sixteen; reserved = kept.reserved; empty = kept.empty; near = kept.near; listed = kept.listed; held = kept.held; placed = kept.placed; counted = kept.counted }
 
 pub returns : goal.returns
 returns g c =

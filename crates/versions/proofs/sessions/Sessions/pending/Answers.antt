@@ -1,4 +1,4 @@
-use Rattle.std.proofs.Common.{◌≡◌, List, sym, ap, ◌∙◌, subst}
+use Rattle.std.proofs.Common.{List, sym, ◌∙◌, subst}
 use Rattle.store.specs.declared.Pending.{Pending}
 use Rattle.versions.specs.Session.{Within}
 use Rattle.versions.specs.Sessions.{records_of}

@@ -1,7 +1,6 @@
-use Rattle.std.proofs.Common.{◌≡◌, ℕ, ◌+◌, ◌<◌, List, [], ◌∷◌, ◌++◌, length, get_or, drop, set, sym, refl, ap, ◌∙◌, arith}
+use Rattle.std.proofs.Common.{◌≡◌, ℕ, ◌+◌, ◌<◌, List, [], ◌∷◌, ◌++◌, length, get_or, drop, set, sym, ap, ◌∙◌, arith}
 use Rattle.std.proofs.lemmas.List.{length-map, get_or-map, length-set, drop_more, drop_all}
 use Rattle.store.specs.declared.Pending.{Pending}
-use Rattle.store.specs.Consoles.{ats}
 use Rattle.versions.specs.Session.{Within}
 use Rattle.store.specs.Meaning.{appended, versions_in}
 use Rattle.versions.specs.Tables.{chains_of, next_of}

@@ -1,8 +1,7 @@
 use Rattle.std.proofs.Common.{◌≡◌, ℕ, ◌+◌, ◌≤◌, List, length, vec_items, sym, refl, ap, ◌∙◌, subst, arith}
 use Rattle.std.proofs.lemmas.List.{length_push}
-use Rattle.store.specs.Meaning.{firsts}
 use Rattle.versions.specs.declared.place.Place.{Place}
-use Rattle.versions.proofs.Starts.{Begun, Spread, begun_more, begun_free, begun_links, begun_counted, spread_none, spread_more}
+use Rattle.versions.proofs.Starts.{Begun, begun_more, begun_free, begun_links, begun_counted, spread_none, spread_more}
 use Rattle.versions.proofs.table.Table.fresh.Goals as goal
 
 pub loop-number-preserved : goal.loop-number-preserved
@@ -43,8 +42,8 @@ loop-place-preserved g c =
       omega (arith, q.capacity),
     )
 
-pub invariant-of-result : goal.invariant-of-result
-invariant-of-result g c =
+pub invariant_of-result : goal.invariant_of-result
+invariant_of-result g c =
     let inv = c.loop-place.invariant in
     let b = inv.0 in
     let s = inv.1 in
@@ -58,19 +57,19 @@ invariant-of-result g c =
     let high = c.requires.1 in
     let low = c.requires.0 in
     let len = c.loop-place.places.ok.0 in
-    let many = c.loop-number.newest.ok.0 in (
-      (omega (arith, len, long, end, high), omega (arith, many, heads, low, high), omega (arith, len, long, end, cap)),
-      (
-        (λ i j q. absurd (no' i j q)),
-        (
-          (λ i j q. absurd (no' i j q)),
-          (
-            (λ i j q. absurd (no' i j q)),
-            (b.headed, (b.owned, (b.numbered, (s.inside, (s.spotted, (begun_counted c.args.first ps ns (vec_items c.loop-place.free) c.args.size c.loop-place.place b s, tt)))))),
-          ),
-        ),
-      ),
-    )
+    let many = c.loop-number.newest.ok.0 in
+    record {
+      fits = (omega (arith, len, long, end, high), omega (arith, many, heads, low, high), omega (arith, len, long, end, cap));
+      down = λ i j q. absurd (no' i j q);
+      live = λ i j q. absurd (no' i j q);
+      mine = λ i j q. absurd (no' i j q);
+      headed = b.headed;
+      owned = b.owned;
+      numbered = b.numbered;
+      inside = s.inside;
+      spotted = s.spotted;
+      counted = begun_counted c.args.first ps ns (vec_items c.loop-place.free) c.args.size c.loop-place.place b s;
+    }
 
 pub returns : goal.returns
 returns g c =

@@ -1,4 +1,4 @@
-use Rattle.std.proofs.Common.{◌≡◌, ℕ, ◌-◌, ◌<◌, [], length, get_or, vec_items, sym, refl, ap, ◌∙◌, arith}
+use Rattle.std.proofs.Common.{◌-◌, length, get_or, vec_items, sym, ap, ◌∙◌, arith}
 use Rattle.store.specs.Meaning.{origin}
 use Rattle.versions.proofs.Ways.{record-within, head_used, head_chain, newest_is}
 use Rattle.versions.proofs.table.Table.newest.Goals as goal

@@ -1,4 +1,4 @@
-use Rattle.std.proofs.Common.{◌≡◌, [], vec_items, sym, ap, ◌∙◌, arith}
+use Rattle.std.proofs.Common.{sym, ap, ◌∙◌, arith}
 use Rattle.store.specs.Meaning.{origin, picked}
 use Rattle.versions.specs.Places.{link_of}
 use Rattle.versions.specs.Tables.{places_of}
@@ -42,8 +42,8 @@ returns-after-loop-place g c =
     sym (c.loop-place.invariant.1 ∙ pick_here g.K.Kind.rules g.K.Kind.test g.met.K.Kind.tested a.first (places_of a) a.down a.live (origin a.first) c.args.began
     c.loop-place.place c.loop-place.row c.loop-place.invariant.0 (sym c.loop-place-test.ensures))
 
-pub returns-in-default : goal.returns-in-default
-returns-in-default g c =
+pub returns-in_default : goal.returns-in_default
+returns-in_default g c =
     let a = c.args.self.now in
     sym (c.loop-place.invariant.1 ∙ pick_first g.K.Kind.rules g.K.Kind.test g.met.K.Kind.tested a.first (places_of a) a.down a.live (origin a.first) c.args.began
-    c.loop-place.place c.loop-place.row c.loop-place.invariant.0 c.in-default.is)
+    c.loop-place.place c.loop-place.row c.loop-place.invariant.0 c.in_default.is)

@@ -1,4 +1,4 @@
-use Rattle.std.proofs.Common.{◌≡◌, ◌<◌, [], length, get_or}
+use Rattle.std.proofs.Common.{◌≡◌, [], get_or}
 use Rattle.versions.specs.declared.place.Place.TheVariants.{Used}
 use Rattle.store.specs.Meaning.{origin, picked}
 use Rattle.versions.specs.Places.{depth, place_at, chain_from}

@@ -1,4 +1,4 @@
-use Rattle.std.proofs.Common.{vec_items, sym, ◌∙◌, rules}
+use Rattle.std.proofs.Common.{vec_items, rules}
 use Rattle.std.proofs.lemmas.List.{length-map}
 use Rattle.versions.specs.Places.{chain_from}
 use Rattle.versions.proofs.table.Table.size.Goals as goal
