@@ -1,5 +1,5 @@
 -- A list that is filled from the front with the versions of some writes.
-use Rattle.std.proofs.Common.{◌≡◌, ℕ, ◌+◌, ◌<◌, ◌≤◌, List, [], ◌∷◌, ◌++◌, length, get_or, take, drop, set, sym, refl, ap, ◌∙◌, append_assoc, arith}
+use Rattle.std.proofs.Common.{◌≡◌, ℕ, ◌+◌, ◌<◌, ◌≤◌, List, [], ◌∷◌, ◌++◌, length, get_or, take, drop, set, sym, ap, ◌∙◌, append_assoc, arith}
 use Rattle.std.proofs.lemmas.List.{drop_more, map_more, set_at, length-map, length-take-le, take_all}
 use Rattle.certifier.specs.declared.Over.{Over}
 use Rattle.certifier.specs.Marking.{overs_of}

@@ -3,7 +3,7 @@ use Rattle.std.specs.Prelude.{ℕ, List, take}
 use Rattle.certifier.specs.declared.few.Few.{Few}
 use Rattle.certifier.specs.declared.track.Track as code
 use Rattle.certifier.specs.declared.entry.DayEntry.{DayEntry}
-use Rattle.certifier.specs.Marking.{Track, no_track, overs_of}
+use Rattle.certifier.specs.Marking.{Track, overs_of}
 
 -- what a day file keeps of a commit: its console and its low mark, the versions that it noted, as noted, and those that it
 -- overwrote, as first written

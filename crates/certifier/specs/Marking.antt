@@ -1,5 +1,5 @@
 -- Marks: what is kept of each version and of each open transaction, and the marks that a commit is judged by.
-use Rattle.std.specs.Prelude.{ℕ, ◌+◌, min, max, Bool, true, false, cond, not, ◌||◌, List, [], ◌∷◌, ◌++◌, map, length, set, Some, None, Option, ◌==◌, nat_le, nat_lt, slice_index_or, slice_set}
+use Rattle.std.specs.Prelude.{ℕ, min, max, Bool, false, cond, not, ◌||◌, List, [], ◌∷◌, ◌++◌, map, length, Some, None, Option, ◌==◌, nat_le, nat_lt, slice_index_or, slice_set}
 use Rattle.certifier.specs.declared.Grant.{Grant}
 use Rattle.certifier.specs.declared.Mark.{Mark}
 use Rattle.certifier.specs.declared.Over.{Over}

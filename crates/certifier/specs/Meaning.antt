@@ -1,5 +1,5 @@
 -- What a log means: its state, and what each call answers and leaves. A log is the certifier above a store of its own.
-use Rattle.std.specs.Prelude.{ℕ, ◌+◌, Bool, true, false, cond, not, ◌&&◌, List, [], ◌∷◌, ◌++◌, length, drop, replicate, is_some, nat_le, nat_lt, slice_index_or, slice_set}
+use Rattle.std.specs.Prelude.{ℕ, ◌+◌, Bool, cond, not, ◌&&◌, List, [], ◌∷◌, ◌++◌, length, drop, replicate, is_some, nat_le, nat_lt, slice_index_or, slice_set}
 use Rattle.store.specs.declared.Layer.TheVariants.{Certifier}
 use Rattle.store.specs.declared.Code.{Code}
 use Rattle.store.specs.declared.Version.{Version}
@@ -14,7 +14,7 @@ use Rattle.certifier.specs.declared.Mark.{Mark}
 use Rattle.certifier.specs.declared.Call.{Call}
 use Rattle.certifier.specs.declared.Call.TheVariants.{Begin, Read, Write, Commit, Drop}
 use Rattle.certifier.specs.Refusals.{passed, reads_full, writes_full, unsafe, no_version, short_list}
-use Rattle.certifier.specs.Marking.{Track, no_track, notes, noted, written, new_mark, mark_at, verdict_of, marked}
+use Rattle.certifier.specs.Marking.{Track, no_track, overs_of, notes, noted, written, new_mark, mark_at, verdict_of, marked}
 use Rattle.certifier.specs.Ranking.{Ranks, unranked, ranked, joined}
 
 -- the store's state; the marks of the versions, by number, in a table with so many places; what each console's open
@@ -129,6 +129,18 @@ module _ {E : Type 0} where
   -- track: what is kept of console k's transaction, nothing where it has none
   abbrev pub track_told : LogState E → ℕ → store.Answer Track
   track_told s k = cond (nat_lt k 16) (gives (track_at s k)) (refuses (no_console Certifier))
+
+  -- noted: the versions that console k's transaction noted, none where it has none
+  abbrev pub noted_of : LogState E → ℕ → store.Answer (List ℕ)
+  noted_of s k = cond (nat_lt k 16) (gives (track_at s k).noted) (refuses (no_console Certifier))
+
+  -- overwritten: the versions that it overwrites at the front of the caller's list, whose later places stay
+  abbrev pub overwritten_of : LogState E → ℕ → List ℕ → store.Answer ℕ × List ℕ
+  overwritten_of s k list =
+      cond (nat_lt k 16)
+      (cond (nat_lt (length list) (length (track_at s k).writes)) (refuses short_list, list)
+      (gives (length (track_at s k).writes), overs_of (track_at s k).writes ++ drop (length (track_at s k).writes) list))
+      (refuses (no_console Certifier), list)
 
   -- a fresh log of r records at the entry e, in l places
   abbrev pub opened : ℕ → ℕ → E → LogState E

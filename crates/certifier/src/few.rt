@@ -1,11 +1,23 @@
 // A short list in a fixed array: the items are the array's first `len`.
-ghost use Rattle.std.specs.Prelude.{◌≡◌, ℕ, ◌<◌, ◌≤◌, [], ◌∷◌, ◌++◌, length, take, nat_le};
+ghost use Rattle.std.specs.Prelude.{◌≡◌, ℕ, ◌<◌, ◌≤◌, [], ◌∷◌, ◌++◌, length, take, nat_le, ⊤};
+
+use std::alloc::AllocError;
 
 pub(crate) struct Few<T, const N: usize> {
     items: [T; N],
     len: usize,
     ghost ok: { len ≤ N },
     ghost whole: { length items ≡ N },
+}
+
+impl<T: Copy, const N: usize> Clone for Few<T, N> {
+    ghost is_clone = { λ a b. b ≡ a };
+
+    ghost is_infallible = { λ _. ⊤ };
+
+    fn clone(&self) -> Result<Few<T, N>, AllocError> {
+        Ok(*self)
+    }
 }
 
 impl<T: Copy, const N: usize> Copy for Few<T, N> {}

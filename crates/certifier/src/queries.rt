@@ -4,7 +4,7 @@ ghost use Rattle.store.specs.Meaning.{clock_of, size_of};
 ghost use Rattle.certifier.specs.Entries.{track_of};
 ghost use Rattle.store.specs.Refusals.{answer_by};
 ghost use Rattle.certifier.specs.Refusals.{code_of};
-ghost use Rattle.certifier.specs.Meaning.{marks_of, order_of, track_told};
+ghost use Rattle.certifier.specs.Meaning.{marks_of, noted_of, order_of, overwritten_of, track_told};
 ghost use Rattle.certifier.specs.Logs.{log_state, answer_of};
 
 use crate::log::Log;
@@ -45,6 +45,31 @@ impl<S: Store<E>, E: Copy> Log<S, E> {
             return Err(LogRefusal::NoConsole);
         }
         Ok(*self.tracks.at(console))
+    }
+
+    /// The versions that the console's open transaction noted, as noted; none where it has nothing open. Refused: 1.
+    pub fn noted(&self, console: u32) -> Result<&[u32], LogRefusal>
+        ensures { answer_by (λ list. list.now) code_of result ≡ noted_of (log_state S.Store.state self.now) console }
+    {
+        if console >= 16 {
+            return Err(LogRefusal::NoConsole);
+        }
+        Ok(self.tracks.at(console).noted.as_slice())
+    }
+
+    /// Puts the versions that the console's open transaction overwrites, as first written, at the front of the caller's
+    /// list, leaves its later places alone, and answers how many there are. Refused: 1, 14.
+    pub fn overwritten(&self, console: u32, list: &mut [u32]) -> Result<usize, LogRefusal>
+        ensures { (answer_of result, list.new) ≡ overwritten_of (log_state S.Store.state self.now) console list.old }
+    {
+        if console >= 16 {
+            return Err(LogRefusal::NoConsole);
+        }
+        let track = self.tracks.at(console);
+        if list.len() < track.writes.as_slice().len() {
+            return Err(LogRefusal::ShortList);
+        }
+        Ok(track.fill(list))
     }
 
     /// Puts the commit stamps by rank at the front of the caller's list, leaves its later places alone, and answers how

@@ -70,7 +70,7 @@ impl Track {
     }
 
     // Puts the numbers of the overwritten versions at the front of a list that has room for them, and answers how many.
-    fn fill(&self, list: &mut [u32]) -> usize
+    pub(crate) fn fill(&self, list: &mut [u32]) -> usize
         requires { length (track_of self.now).writes ≤ length list.old }
         ensures count { result ≡ length (track_of self.now).writes }
         ensures list { list.new ≡ overs_of (track_of self.now).writes ++ drop (length (track_of self.now).writes) list.old }

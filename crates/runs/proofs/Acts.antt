@@ -1,10 +1,10 @@
 -- One more accepted read or write of an open transaction: what its track, its pending entries and its history have in common.
-use Rattle.std.proofs.Common.{◌≡◌, ℕ, ◌<◌, ◌≤◌, Bool, true, false, cond, not, ◌||◌, leb, ◌⊎◌, List, [], ◌∷◌, ◌++◌, map, length, Some, None, Option, sym, refl, ap, ◌∙◌, subst, inl, inr, arith}
+use Rattle.std.proofs.Common.{◌≡◌, ℕ, ◌<◌, ◌≤◌, Bool, true, false, cond, not, ◌||◌, leb, List, [], ◌∷◌, ◌++◌, length, Some, None, Option, sym, refl, ap, ◌∙◌, subst, arith}
 use Rattle.std.proofs.lemmas.List.{map_push, length_push}
 use Rattle.std.proofs.lemmas.Bool.{cond_both, cond-true, cond-false, both_ways, leb-false, not-true}
 use Rattle.store.specs.declared.Version.{Version}
 use Rattle.store.specs.declared.Pending.{Pending}
-use Rattle.store.specs.Meaning.{own_at, replaced, holds}
+use Rattle.store.specs.Meaning.{own_at, replaced}
 use Rattle.certifier.specs.declared.Over.{Over}
 use Rattle.certifier.specs.Marking.{Track, overs_of, member, note_in, notes, noted}
 use Rattle.runs.specs.History.{Act, Transaction, note_some, gather, read_by, overwritten_by, written_by, read_in, overwritten_in, records_in}

@@ -1,10 +1,10 @@
 -- A granted commit keeps the invariant of runs, and its marks are those of the history.
-use Rattle.std.proofs.Common.{◌≡◌, ℕ, ◌+◌, ◌<◌, ◌≤◌, max, Bool, true, false, cond, ◌||◌, eqb, ◌⊎◌, List, [], ◌∷◌, ◌++◌, map, length, get_or, set, Some, None, Option, sym, refl, ap, ◌∙◌, subst, ap₂, inl, inr, ⊎_elim, append_assoc, arith}
+use Rattle.std.proofs.Common.{◌≡◌, ℕ, ◌+◌, ◌<◌, ◌≤◌, max, Bool, true, false, cond, ◌||◌, eqb, ◌⊎◌, List, [], ◌∷◌, ◌++◌, length, get_or, set, Some, None, Option, sym, refl, ap, ◌∙◌, subst, ap₂, inl, inr, ⊎_elim, append_assoc, arith}
 use Rattle.std.proofs.lemmas.List.{get_or-set_same, get_or-set_other, length-set, length-map, append-nil}
 use Rattle.std.proofs.lemmas.Bool.{eqb-true, eq-eqb, ne_eqb, or_left, or_right, cond-true, cond-false, cond_both, cases_eq, cases_lt, cases_Bool, and_from, and_left, le-leb, lt-leb, lt-ltb, both_ways}
 use Rattle.store.specs.declared.Pending.{Pending}
 use Rattle.store.specs.declared.Version.{Version}
-use Rattle.store.specs.Meaning.{State, Console, holds, replaced, appended, pending_in, versions_in, console_at, chain_at}
+use Rattle.store.specs.Meaning.{Console, holds, replaced, appended, pending_in, versions_in, console_at}
 use Rattle.store.proofs.Lists.{versions_set}
 use Rattle.certifier.specs.declared.Grant.{Grant}
 use Rattle.certifier.specs.declared.Mark.{Mark}
@@ -14,10 +14,9 @@ use Rattle.certifier.specs.Ranking.{ranked}
 use Rattle.certifier.specs.Meaning.{LogState, track_at}
 use Rattle.runs.specs.History.{Act, Transaction, Summary, read_in, overwritten_in, records_in, current_at, made_by, stamp_of, read_stamp, low_of, mark_of, lowest_of, greatest_stamp_of, greatest_high_of, grant_of}
 use Rattle.runs.specs.History.Act.{took_own, took_version, put}
-use Rattle.runs.specs.Law.{Has}
 use Rattle.runs.proofs.Goods.{pending_after, added_by, chain_of, newest_of, next_of, Valid, Fits, Good}
 use Rattle.runs.proofs.Rows.{low_right, stamp_right, high_right, verdict_is, remarked, raise, lower, marked_length, marked_old, marked_new}
-use Rattle.runs.proofs.Chains.{has_front, held_replaced, pending_count, added_none, read_act_lem, overwrite_act, valid_read, valid_put, number_under, newest_has, overwritten_below, low_past}
+use Rattle.runs.proofs.Chains.{has_front, pending_count, added_none, read_act_lem, overwrite_act, valid_read, valid_put, number_under, newest_has, overwritten_below, low_past}
 use Rattle.runs.proofs.Acts.{Row}
 use Rattle.runs.proofs.Ties.{console_holds, Matches, Tied}
 

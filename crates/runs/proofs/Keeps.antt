@@ -1,25 +1,24 @@
 -- Every call that ends no transaction by a grant keeps the invariant of runs.
-use Rattle.std.proofs.Common.{◌≡◌, ℕ, ◌+◌, ◌-◌, ◌<◌, ◌≤◌, Bool, true, false, cond, not, ◌&&◌, eqb, leb, ◌⊎◌, List, [], ◌∷◌, ◌++◌, map, length, get_or, set, Some, None, Option, sym, refl, ap, ◌∙◌, subst, inl, inr, ⊎_elim, arith}
+use Rattle.std.proofs.Common.{◌≡◌, ℕ, ◌+◌, ◌-◌, ◌<◌, ◌≤◌, Bool, true, false, not, ◌&&◌, leb, List, [], ◌∷◌, ◌++◌, length, get_or, set, Some, None, Option, sym, refl, ap, ◌∙◌, subst, ⊎_elim, arith}
 use Rattle.std.proofs.lemmas.List.{get_or-set_same, get_or-set_other, length-set, length-map, length_push}
-use Rattle.std.proofs.lemmas.Bool.{both_ways, cond-true, cond-false}
+use Rattle.std.proofs.lemmas.Bool.{both_ways, cond-true}
 use Rattle.store.specs.declared.Pending.{Pending}
 use Rattle.store.specs.declared.Version.{Version}
-use Rattle.store.specs.Meaning.{Rules, Inside, Console, holds, pending_list, pending_in, pending_at, versions_in, any_holds, console_at, chain_at, newest_at, stamps_of, replaced, origin, own_at}
+use Rattle.store.specs.Meaning.{Rules, Inside, Console, holds, pending_list, pending_in, pending_at, console_at, chain_at, newest_at, stamps_of, replaced, origin, own_at}
 use Rattle.store.proofs.Pendings.{pending_set, replaced_push, none_any}
-use Rattle.certifier.specs.declared.Grant.{Grant}
 use Rattle.certifier.specs.Marking.{Track, no_track, member, notes, noted, written}
 use Rattle.certifier.specs.Meaning.{LogState, track_at, full}
-use Rattle.runs.specs.History.{Act, Transaction, Summary, read_in, overwritten_in, records_in, current_at, acts_at, with_current}
+use Rattle.runs.specs.History.{Act, Transaction, Summary, overwritten_in, records_in, acts_at, with_current}
 use Rattle.runs.specs.History.Act.{took_own, took_version, put}
 use Rattle.runs.specs.Law.{Has}
-use Rattle.runs.proofs.Goods.{pending_after, added_by, chain_of, newest_of, Valid, Good}
+use Rattle.runs.proofs.Goods.{pending_after, added_by, chain_of, newest_of}
 use Rattle.runs.proofs.Rows.{records_of, written_is}
 use Rattle.runs.proofs.Chains as chains
 use Rattle.runs.proofs.Chains.{has_get_d, held_replaced, records_replaced, member_records, member_holds, overwrite_act, write_act_lem, act_writes, act_overwrites, valid_put, same_number, newest_has}
 use Rattle.runs.proofs.Acts.{Row, own_row, version_row, write_row}
 use Rattle.runs.proofs.Views.{Lets, put_at}
 use Rattle.runs.proofs.Views.Lets.{second, first}
-use Rattle.runs.proofs.Ties.{console_holds, Matches, Tied, inside, Change, change, row_at}
+use Rattle.runs.proofs.Ties.{console_holds, Matches, Tied, inside, change, row_at}
 
 not_both : (a b : Bool) → (a && not b) ≡ false → b ≡ false → a ≡ false
 not_both true true e f = absurd (both_ways true f refl)

@@ -1,8 +1,8 @@
 -- The commits as they are kept by low mark are the history's rank.
-use Rattle.std.proofs.Common.{◌≡◌, ℕ, zero, suc, ◌+◌, ◌<◌, ◌≤◌, Bool, true, false, cond, ◌&&◌, ◌||◌, eqb, ltb, ◌⊎◌, List, [], ◌∷◌, ◌++◌, map, length, get_or, set, replicate, sym, refl, ap, ◌∙◌, subst, inl, inr, append_assoc, arith}
+use Rattle.std.proofs.Common.{◌≡◌, ℕ, zero, suc, ◌+◌, ◌<◌, ◌≤◌, Bool, true, false, ◌&&◌, ◌||◌, eqb, ltb, List, [], ◌∷◌, ◌++◌, map, length, get_or, set, replicate, sym, refl, ap, ◌∙◌, subst, inl, inr, arith}
 use Rattle.std.proofs.lemmas.List.{map-append, length-set, length-replicate}
 use Rattle.std.proofs.lemmas.Bool.{lt-ltb, le-ltb, ltb-false, eq-eqb, ne_eqb, cond-true, cond-false}
-use Rattle.certifier.specs.Ranking.{Ranks, joined, ranked, unranked}
+use Rattle.certifier.specs.Ranking.{Ranks, joined}
 use Rattle.runs.specs.History.{Transaction, is_before, inserted, in_rank}
 use Rattle.runs.specs.Law.{Has}
 use Rattle.runs.proofs.Goods.{Good}

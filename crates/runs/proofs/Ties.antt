@@ -1,8 +1,8 @@
 -- The invariant of runs: what ties a log's state to its history, and that it is kept where one console changes.
-use Rattle.std.proofs.Common.{◌≡◌, ℕ, ◌+◌, ◌<◌, ◌≤◌, Bool, true, false, List, [], ◌∷◌, ◌++◌, length, get_or, set, Some, None, Option, sym, refl, ap, ◌∙◌, subst, ⊎_elim, arith}
+use Rattle.std.proofs.Common.{◌≡◌, ℕ, ◌+◌, ◌<◌, ◌≤◌, Bool, true, List, [], ◌∷◌, length, get_or, set, Some, None, Option, sym, refl, ap, ◌∙◌, subst, ⊎_elim, arith}
 use Rattle.std.proofs.lemmas.List.{get_or-set_same, get_or-set_other, length-set}
 use Rattle.std.proofs.lemmas.Bool.{cases_eq}
-use Rattle.store.specs.Meaning.{State, Console, holds, pending_list, pending_in, versions_in, console_at, chain_at}
+use Rattle.store.specs.Meaning.{Console, holds, pending_list, pending_in, versions_in, console_at, chain_at}
 use Rattle.certifier.specs.Marking.{Track, no_track, mark_at}
 use Rattle.certifier.specs.Ranking.{Ranks, unranked, ranked}
 use Rattle.certifier.specs.Meaning.{LogState, track_at}

@@ -1,30 +1,29 @@
 -- The invariant of runs holds from opening on, whatever is called; and each commit is answered as the history says.
-use Rattle.std.proofs.Common.{◌≡◌, ℕ, zero, suc, ◌+◌, ◌<◌, ◌≤◌, Bool, true, false, cond, eqb, ltb, List, [], ◌∷◌, ◌++◌, length, get_or, set, replicate, Some, None, Option, sym, refl, ap, ◌∙◌, subst, ap₂, ⊎_elim, append_assoc, arith}
+use Rattle.std.proofs.Common.{◌≡◌, ℕ, zero, suc, ◌+◌, ◌<◌, Bool, true, false, cond, eqb, ltb, List, [], ◌∷◌, ◌++◌, length, get_or, set, replicate, Some, None, Option, sym, refl, ap, ◌∙◌, subst, ap₂, ⊎_elim, append_assoc, arith}
 use Rattle.std.proofs.lemmas.List.{append-nil, get_or-set_same, get_or-set_other, get_or-replicate, length-replicate}
-use Rattle.std.proofs.lemmas.Bool.{both_ways, cond-true, cond-false, cases_eq, ltb-true, lt-ltb}
+use Rattle.std.proofs.lemmas.Bool.{both_ways, cond-true, cond-false, cases_eq, lt-ltb}
 use Rattle.std.specs.Option.{option_map, option_to_list}
 use Rattle.store.specs.declared.Layer.TheVariants.{Certifier}
 use Rattle.store.specs.declared.Code.{Code}
 use Rattle.store.specs.declared.Pending.{Pending}
 use Rattle.store.specs.declared.Version.{Version}
-use Rattle.store.specs.Refusals.{Answer, no_console, shut, day_full}
-use Rattle.store.specs.Meaning.{Rules, Inside, Range, Console, holds, pending_list, pending_in, pending_at, console_at, stamps_of, origin, committed, firsts, shut_all}
+use Rattle.store.specs.Refusals.{Answer, shut, day_full}
+use Rattle.store.specs.Meaning.{Rules, Inside, Range, Console, holds, pending_list, pending_at, console_at, stamps_of, origin, committed, firsts, shut_all}
 use Rattle.store.proofs.Pendings.{pending_set}
 use Rattle.store.proofs.Lists.{firsts_long, firsts_many}
 use Rattle.certifier.specs.declared.Call.{Call}
 use Rattle.certifier.specs.declared.Call.TheVariants.{Begin, Read, Write, Commit, Drop}
-use Rattle.certifier.specs.declared.Grant.{Grant}
 use Rattle.certifier.specs.Refusals.{unsafe}
 use Rattle.certifier.specs.Marking.{Track, no_track, new_mark}
 use Rattle.certifier.specs.Meaning.{LogState, Reply, track_at, grant_at, settled, step, commit_step, answers_of, after, opened}
 use Rattle.certifier.specs.Meaning.Reply.{granted, refused}
-use Rattle.runs.specs.History.{Event, Act, Summary, console_of, read_in, overwritten_in, entries_in, history_of, current_at, acts_at, with_current, finished, advance, advances, unused, judged, grant_of, verdict}
+use Rattle.runs.specs.History.{Act, Summary, console_of, read_in, overwritten_in, entries_in, history_of, current_at, acts_at, with_current, finished, advance, advances, unused, judged, grant_of, verdict}
 use Rattle.certifier.specs.Entries.{Entry, entry_at}
 use Rattle.runs.specs.Outcomes.{given_by, entry_for, track_for, filed_in}
 use Rattle.runs.specs.Law.{Has, JudgedAs, Judged}
 use Rattle.runs.proofs.Goods.{chain_of}
 use Rattle.runs.proofs.Acts.{Row}
-use Rattle.runs.proofs.Views.{Live, Step, put_at, shown_to, view}
+use Rattle.runs.proofs.Views.{Live, Step, shown_to, view}
 use Rattle.runs.proofs.Views.Step.{refusal, begins, owns, sees, writes, commits, fails, drops}
 use Rattle.runs.proofs.Ties.{console_holds, Tied, matches_by, row_at, shut_at}
 use Rattle.runs.proofs.Keeps.{shown_has, begun_kept, shut_kept, own_kept, version_kept, write_kept}

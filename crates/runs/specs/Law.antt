@@ -1,5 +1,5 @@
 -- The law over whole runs: rank, serial, marks, striking. Everything is said of the history, and of the log that it leads to.
-use Rattle.std.specs.Prelude.{◌≡◌, ℕ, ◌+◌, ◌<◌, ◌≤◌, ◌⊎◌, List, [], ◌∷◌, map, length, get_or, replicate, ◌≢◌, slice_index_or, slice_set}
+use Rattle.std.specs.Prelude.{◌≡◌, ℕ, ◌+◌, ◌<◌, ◌≤◌, ◌⊎◌, List, [], ◌∷◌, map, length, replicate, ◌≢◌, slice_index_or, slice_set}
 use Rattle.store.specs.Meaning.{Rules, newest_at}
 use Rattle.certifier.specs.declared.Call.{Call}
 use Rattle.certifier.specs.declared.Call.TheVariants.{Begin, Read, Write, Commit, Drop}
@@ -96,7 +96,7 @@ pub record Ranked {E : Type 0} (s : LogState E) (done : List (Transaction E)) : 
   pub forward : (u t : Transaction E) → Depends done u t → Before u t
   pub acyclic : (t : Transaction E) → Leads done t t → ⊥
   -- the commit stamps are 1, 2 and so on, the newest first in the list, and so distinct; rank is a strict total order
-  pub stamps : (i : ℕ) (d : Transaction E) → i < length done → (get_or done i d).grant.stamp + i ≡ length done
+  pub stamps : (i : ℕ) (d : Transaction E) → i < length done → (slice_index_or done i d).grant.stamp + i ≡ length done
   pub total : (u t : Transaction E) → Has u done → Has t done → (u ≡ t) ⊎ (Before u t ⊎ Before t u)
   pub sorted : Sorted (in_rank done)
   -- what `order` answers is the rank, all of it and nothing else

@@ -7,10 +7,10 @@ use Rattle.certifier.proofs.log.Log.commit.Goals as goal
 pub add-requires : goal.add-requires
 add-requires g c =
     let s = log_state g.S.Store.state c.args.self.now in
-    let day = commit_tells s.store c.args.console _ _ c.in-ok-commit.ensures in
+    let day = commit_tells s.store c.args.console _ _ c.in_ok-commit.ensures in
     let low = ap (λ x. x.low) c.judge-grant.ensures in
-    let most = low_le s.marks c.saturating-add-stamp.result (track_at s (c.args.console % 16)).noted in
-    omega (arith, c.clock.ensures, c.saturating-add-stamp.ensures)
+    let most = low_le s.marks c.saturating_add-stamp.result (track_at s (c.args.console % 16)).noted in
+    omega (arith, c.clock.ensures, c.saturating_add-stamp.ensures)
 
 pub clear-requires-2 : goal.clear-requires-2
-clear-requires-2 g c = near_open (g.S.Store.state c.args.self.now.store) c.args.console _ _ _ _ c.in-ok-commit.ensures
+clear-requires-2 g c = near_open (g.S.Store.state c.args.self.now.store) c.args.console _ _ _ _ c.in_ok-commit.ensures

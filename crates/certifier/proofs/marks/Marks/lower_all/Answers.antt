@@ -1,4 +1,4 @@
-use Rattle.std.proofs.Common.{ℕ, List, vec_items, refl, ap, ◌∙◌, rules}
+use Rattle.std.proofs.Common.{List, refl, ◌∙◌, rules}
 use Rattle.certifier.specs.declared.Mark.{Mark}
 use Rattle.certifier.specs.declared.Over.{Over}
 use Rattle.certifier.specs.Marking.{lowered, lower_row}

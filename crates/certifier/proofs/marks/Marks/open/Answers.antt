@@ -6,7 +6,7 @@ use Rattle.certifier.proofs.marks.Marks.open.Goals as goal
 
 pub loop-i-preserved : goal.loop-i-preserved
 loop-i-preserved c = (
-  c.push-reserved.ensures.items ∙ (ap (λ (ms : List Mark). ms ++ (new_mark 0 ∷ [])) c.loop-i.invariant.0 ∙ replicate_more c.loop-i.-i (new_mark 0)),
+  c.push_reserved.ensures.items ∙ (ap (λ (ms : List Mark). ms ++ (new_mark 0 ∷ [])) c.loop-i.invariant.0 ∙ replicate_more c.loop-i._i (new_mark 0)),
   omega arith,
   omega arith,
 )

@@ -1,6 +1,5 @@
-use Rattle.std.proofs.Common.{ℕ, List, vec_items, refl, ap, ◌∙◌, rules}
+use Rattle.std.proofs.Common.{ℕ, List, refl, ◌∙◌, rules}
 use Rattle.certifier.specs.declared.Mark.{Mark}
-use Rattle.certifier.specs.declared.Over.{Over}
 use Rattle.certifier.specs.Marking.{raised, raise_row}
 use Rattle.certifier.proofs.Folds.{turn, ended}
 use Rattle.certifier.proofs.marks.Marks.raise_all.Goals as goal

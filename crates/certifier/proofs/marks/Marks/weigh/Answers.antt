@@ -1,16 +1,16 @@
-use Rattle.std.proofs.Common.{◌≡◌, ℕ, max, get_or, vec_items, sym, refl, ap, ◌∙◌, rules}
+use Rattle.std.proofs.Common.{◌≡◌, max, get_or, vec_items, sym, refl, ap, ◌∙◌, rules}
 use Rattle.certifier.specs.declared.Mark.{Mark}
 use Rattle.certifier.specs.Marking.{low_mark, top_stamp, low_or, mark_at}
 use Rattle.certifier.proofs.Folds.{turn, ended}
 use Rattle.certifier.proofs.marks.Marks.weigh.Goals as goal
-use Rattle.certifier.proofs.marks.Marks.weigh.Goals.{in-Some, in-default}
+use Rattle.certifier.proofs.marks.Marks.weigh.Goals.{in-Some, in_default}
 
 met : (c : goal.Joined-row) → c.match-row.low ≡ low_or c.loop-n.low (mark_at (vec_items c.args.self.now.rows) (get_or c.args.noted.now c.loop-n.n-index 0)).low
 met c =
     let e = ap (λ (m : Mark). low_or c.loop-n.low m.low) c.row-row.ensures in
     elim c.match-row.branch [
       | in-Some w ↦ w.low-is ∙ (w.min-low.ensures ∙ (sym (ap (low_or c.loop-n.low) w.in-Some.is) ∙ e))
-      | in-default w ↦ w.low-is ∙ (sym (ap (low_or c.loop-n.low) w.in-default.is) ∙ e)
+      | in_default w ↦ w.low-is ∙ (sym (ap (low_or c.loop-n.low) w.in_default.is) ∙ e)
     ]
 
 pub loop-n-preserved : goal.loop-n-preserved
