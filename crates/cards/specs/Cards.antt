@@ -1,5 +1,5 @@
 -- Inspection cards: the rule that a card keeps, and its refusal.
-use Rattle.std.specs.Prelude.{◌≡◌, Bool, true, false, cond, not, ℕ, eqb}
+use Rattle.std.specs.Prelude.{◌≡◌, Bool, true, false, cond, not, eqb}
 use Rattle.store.specs.declared.Layer.TheVariants.{Card}
 use Rattle.store.specs.declared.Code.{Code}
 use Rattle.store.specs.Refusals.{Answer, code}

@@ -3,4 +3,4 @@ use Rattle.daywriter.proofs.Overs.{put_over}
 use Rattle.daywriter.proofs.put.put.Goals as goal
 
 pub returns : goal.returns
-returns c = put_over c.args.buf.now c.args.at _ c.args.src.now c.copy-from-slice.new.self c.copy-from-slice.ensures.after (omega arith)
+returns c = put_over c.args.buf.now c.args.at _ c.args.src.now c.copy_from_slice.new.self c.copy_from_slice.ensures.after (omega arith)

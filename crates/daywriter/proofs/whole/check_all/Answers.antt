@@ -20,7 +20,7 @@ loop-e-preserved c =
     let x = extent_of c.loop-e.progress in
     let left = map wrote (drop (i + 1) xs) in
     ap (λ y. taken_all c.args.room y left) c.after-progress.ensures
-    ∙ take_on c.args.room x (wrote (get_or xs i blank)) left c.in-default.ensures
+    ∙ take_on c.args.room x (wrote (get_or xs i blank)) left c.in_default.ensures
     ∙ ap (taken_all c.args.room x) (sym (rest_at xs i (omega arith))) ∙ c.loop-e.invariant
 
 pub returns : goal.returns

@@ -18,8 +18,8 @@ loop-e-init c =
           (subst (Copied b s (record { extent = started s.records; bytes = b })) (sym c.entries-walk.ensures) (copied_start b s c.requires.whole room)),
     )
 
-pub put-read-requires : goal.put-read-requires
-put-read-requires c =
+pub put_read-requires : goal.put_read-requires
+put_read-requires c =
     let s = shape_of c.args.file.now in
     let b = c.open-out.result.buf.now in
     let same = ap (λ (x : Writer). length x.bytes) c.open-out.ensures.state in
@@ -33,8 +33,8 @@ loop-e-preserved c =
     let same = ap (λ (x : Writer). length x.bytes) c.open-out.ensures.state in
     let room : length s.part ≤ length b = omega (arith, c.requires.room) in
     let next = walk_of c.next.new.self in (
-      c.put-read.ensures.lent ∙ c.loop-e.invariant.0,
-      subst (λ w. Copied b s w next) (sym c.put-read.ensures.does)
+      c.put_read.ensures.lent ∙ c.loop-e.invariant.0,
+      subst (λ w. Copied b s w next) (sym c.put_read.ensures.does)
           (copied_more b s (writer_of c.loop-e.out) (walk_of c.loop-e.walk) next (said c.in-Some.e) c.requires.whole room c.loop-e.invariant.1 c.in-Some.ensures.steps),
     )
 
@@ -43,7 +43,7 @@ returns c =
     let s = shape_of c.args.file.now in
     let b = c.open-out.result.buf.now in
     let was = ap (λ (x : Writer). over x.bytes 0 s.part) c.open-out.ensures.state in
-    let closed = c.close.ensures.does ∙ copied_end b s (writer_of c.loop-e.out) (walk_of c.loop-e.walk) (walk_of c.next.new.self) c.requires.whole c.loop-e.invariant.1 c.in-default.ensures.steps in
+    let closed = c.close.ensures.does ∙ copied_end b s (writer_of c.loop-e.out) (walk_of c.loop-e.walk) (walk_of c.next.new.self) c.requires.whole c.loop-e.invariant.1 c.in_default.ensures.steps in
     record {
       bytes = (c.bytes.ensures.bytes.0 ∙ ap (λ (x : Closed). x.bytes) closed ∙ was, c.bytes.ensures.bytes.1 ∙ ap (λ (x : Closed). x.len) closed);
       lent = c.bytes.ensures.lent ∙ c.close.ensures.lent ∙ c.loop-e.invariant.0 ∙ c.open-out.ensures.lent;
