@@ -15,7 +15,8 @@ pub struct Track {
 }
 
 impl Track {
-    pub(crate) fn new() -> Track
+    /// Nothing noted and nothing written.
+    pub fn new() -> Track
         ensures { track_of result ≡ no_track }
     {
         Track {

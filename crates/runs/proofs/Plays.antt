@@ -1,5 +1,5 @@
 -- Calls of a run one after another: what holds amid them, and what one call more and the last one make of it.
-use Rattle.std.proofs.Common.{◌≡◌, ℕ, ◌+◌, ◌<◌, ◌≤◌, List, [], ◌∷◌, ◌++◌, length, get_or, drop, Option, sym, ap, ◌∙◌, append_assoc}
+use Rattle.std.proofs.Common.{◌≡◌, ℕ, ◌+◌, ◌<◌, ◌≤◌, List, [], ◌∷◌, ◌++◌, length, get_or, drop, sym, ap, ◌∙◌, append_assoc}
 use Rattle.std.proofs.lemmas.List.{drop_more, drop_all, append-nil, map_push}
 use Rattle.store.specs.Meaning.{Rules}
 use Rattle.certifier.specs.declared.Call.{Call}
@@ -48,7 +48,7 @@ module _ {E : Type 0} (rules : Rules) (start : LogState E) (calls : List (Call E
       × (after rules s (drop i calls) ≡ after rules start calls)
       × (es ++ filed_in rules s (drop i calls) ≡ filed_in rules start calls)
 
-  pub turn : (s s' : LogState E) (i : ℕ) (d : Call E) (a : Answer E) (t : Option Track) (before more : List (Answer E)) (es fs : List Entry)
+  pub turn : (s s' : LogState E) (i : ℕ) (d : Call E) (a : Answer E) (t : Track) (before more : List (Answer E)) (es fs : List Entry)
       → i < length calls → d ≡ get_or calls i d → (reply_of a, s') ≡ step rules s d → t ≡ track_for s d
       → more ≡ before ++ (a ∷ []) → fs ≡ es ++ entry_for d (reply_of a) t → Amid s i (replies_of before) es → Amid s' (i + 1) (replies_of more) fs
   turn s s' i d a t before more es fs lt at e told pushed kept h =

@@ -1,13 +1,12 @@
 -- The invariant of runs holds from opening on, whatever is called; and each commit is answered as the history says.
-use Rattle.std.proofs.Common.{◌≡◌, ℕ, zero, suc, ◌+◌, ◌<◌, Bool, true, false, cond, eqb, ltb, List, [], ◌∷◌, ◌++◌, length, get_or, set, replicate, Some, None, Option, sym, refl, ap, ◌∙◌, subst, ap₂, ⊎_elim, append_assoc, arith}
+use Rattle.std.proofs.Common.{◌≡◌, ℕ, zero, suc, ◌+◌, ◌%◌, ◌<◌, Bool, true, false, cond, eqb, ltb, List, [], ◌∷◌, ◌++◌, length, get_or, set, replicate, Some, None, Option, sym, refl, ap, ◌∙◌, subst, ap₂, ⊎_elim, append_assoc, arith}
 use Rattle.std.proofs.lemmas.List.{append-nil, get_or-set_same, get_or-set_other, get_or-replicate, length-replicate}
-use Rattle.std.proofs.lemmas.Bool.{both_ways, cond-true, cond-false, cases_eq, lt-ltb}
-use Rattle.std.specs.Option.{option_map, option_to_list}
+use Rattle.std.proofs.lemmas.Bool.{both_ways, cond-true, cond-false, cases_eq}
 use Rattle.store.specs.declared.Layer.TheVariants.{Certifier}
 use Rattle.store.specs.declared.Code.{Code}
 use Rattle.store.specs.declared.Pending.{Pending}
 use Rattle.store.specs.declared.Version.{Version}
-use Rattle.store.specs.Refusals.{Answer, shut, day_full}
+use Rattle.store.specs.Refusals.{shut, day_full}
 use Rattle.store.specs.Meaning.{Rules, Inside, Range, Console, holds, pending_list, pending_at, console_at, stamps_of, origin, committed, firsts, shut_all}
 use Rattle.store.proofs.Pendings.{pending_set}
 use Rattle.store.proofs.Lists.{firsts_long, firsts_many}
@@ -19,7 +18,7 @@ use Rattle.certifier.specs.Meaning.{LogState, Reply, track_at, grant_at, settled
 use Rattle.certifier.specs.Meaning.Reply.{granted, refused}
 use Rattle.runs.specs.History.{Act, Summary, console_of, read_in, overwritten_in, entries_in, history_of, current_at, acts_at, with_current, finished, advance, advances, unused, judged, grant_of, verdict}
 use Rattle.certifier.specs.Entries.{Entry, entry_at}
-use Rattle.runs.specs.Outcomes.{given_by, entry_for, track_for, filed_in}
+use Rattle.runs.specs.Outcomes.{entry_for, track_for, filed_in}
 use Rattle.runs.specs.Law.{Has, JudgedAs, Judged}
 use Rattle.runs.proofs.Goods.{chain_of}
 use Rattle.runs.proofs.Acts.{Row}
@@ -113,7 +112,7 @@ module _ {E : Type 0} where
     judged_as rules (Drop k) = tt
 
   -- what is kept of a call for the day file is what the history says of its commit
-  refused_none : (c : Call E) (x : Code) (t : Option Track) → entry_for c (refused x) t ≡ []
+  refused_none : (c : Call E) (x : Code) (t : Track) → entry_for c (refused x) t ≡ []
   refused_none (Begin k) x t = refl
   refused_none (Read k r) x t = refl
   refused_none (Write k r e) x t = refl
@@ -125,12 +124,13 @@ module _ {E : Type 0} where
     same_done true k = refl
     same_done false k = refl
 
-    entry_is : (k : ℕ) (o : Console E) → Live s k o → option_to_list (option_map (entry_at k (grant_at s k).low) (track_for s (Commit k)))
-        ≡ record { console = k; low = (grant_at s k).low; reads = read_in (acts_at m k); writes = overwritten_in (acts_at m k) } ∷ []
+    entry_is : (k : ℕ) (o : Console E) → Live s k o → entry_at k (grant_at s k).low (track_at s (k % 16))
+        ≡ record { console = k; low = (grant_at s k).low; reads = read_in (acts_at m k); writes = overwritten_in (acts_at m k) }
     entry_is k o a =
         let w = (row_at h k o a.console).1 in
-        let F : List ℕ → List ℕ → List Entry = λ x y. record { console = k; low = (grant_at s k).low; reads = x; writes = y } ∷ [] in
-        ap (λ (x : Answer Track). option_to_list (option_map (entry_at k (grant_at s k).low) (given_by x))) (cond-true (ltb k 16) _ _ (lt-ltb k 16 a.near)) ∙ ap₂ F w.noted w.overwritten
+        let n : k % 16 ≡ k = omega (arith, a.near) in
+        let F : List ℕ → List ℕ → Entry = λ x y. record { console = k; low = (grant_at s k).low; reads = x; writes = y } in
+        ap (λ j. entry_at k (grant_at s k).low (track_at s j)) n ∙ ap₂ F w.noted w.overwritten
 
     step_filed : (rules : Rules) (c : Call E) (x : Reply E) (t : LogState E) → Step rules s c x t
         → entries_in m.done ++ entry_for c x (track_for s c) ≡ entries_in (advance m (record { call = c; reply = x })).done
@@ -140,7 +140,7 @@ module _ {E : Type 0} where
     step_filed rules c x t (owns k r o e a l q) = append-nil (entries_in m.done)
     step_filed rules c x t (sees k r o a l q n) = append-nil (entries_in m.done)
     step_filed rules c x t (writes k r e o a l space lets) = append-nil (entries_in m.done)
-    step_filed rules c x t (commits k o a d safe) = ap (λ (es : List Entry). entries_in m.done ++ es) (entry_is k o a)
+    step_filed rules c x t (commits k o a d safe) = ap (λ (e : Entry). entries_in m.done ++ (e ∷ [])) (entry_is k o a)
     step_filed rules c x t (fails k o a d g) = append-nil (entries_in m.done)
     step_filed rules c x t (drops k o a) = append-nil (entries_in m.done)
 

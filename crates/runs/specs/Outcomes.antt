@@ -1,28 +1,21 @@
 -- What a run answers, what is kept of its commits, and what each case of its answers stands for.
-use Rattle.std.specs.Prelude.{◌≡◌, ℕ, List, [], ◌∷◌, ◌++◌, map, Some, None, Ok, Err, vec_items, Option, Result}
-use Rattle.std.specs.Option.{option_map, option_to_list}
+use Rattle.std.specs.Prelude.{◌≡◌, ℕ, ◌%◌, List, [], ◌∷◌, ◌++◌, map, Ok, Err, vec_items, Result}
 use Rattle.store.specs.declared.OpenFault.{OpenFault}
-use Rattle.store.specs.Refusals.{Answer, open_code}
-use Rattle.store.specs.Refusals.Answer.{gives, refuses}
+use Rattle.store.specs.Refusals.{open_code}
 use Rattle.store.specs.Meaning.{Rules, State, Range, Unopened}
 use Rattle.certifier.specs.declared.Call.{Call}
 use Rattle.certifier.specs.declared.Call.TheVariants.{Begin, Read, Write, Commit, Drop}
 use Rattle.certifier.specs.Refusals.{code_of}
-use Rattle.certifier.specs.Marking.{Track}
-use Rattle.certifier.specs.Meaning.{LogState, Reply, track_told, opened, step, answers_of, after}
+use Rattle.certifier.specs.Marking.{Track, no_track}
+use Rattle.certifier.specs.Meaning.{LogState, Reply, track_at, opened, step, answers_of, after}
 use Rattle.certifier.specs.Meaning.Reply.{begun, own, saw, overwrites, granted, dropped, refused}
 use Rattle.certifier.specs.Entries.{Entry, entry_at, entry_by}
 use Rattle.certifier.specs.Logs.{log_state}
 use Rattle.runs.specs.declared.Answer as code_answer
 use Rattle.runs.specs.declared.Answer.TheVariants as case
 use Rattle.runs.specs.declared.Outcome.{Outcome}
-use Rattle.runs.specs.History.{console_of, history_of, summary_of, entries_in}
+use Rattle.runs.specs.History.{history_of, summary_of, entries_in}
 use Rattle.runs.specs.Law.{Lawful}
-
--- what an answer gives, if it is no refusal
-abbrev pub given_by : {A : Type 0} → Answer A → Option A
-given_by (gives a) = Some a
-given_by (refuses c) = None
 
 module _ {E : Type 0} where
   -- an answer of a run
@@ -39,25 +32,29 @@ module _ {E : Type 0} where
   replies_of xs = map reply_of xs
 
   -- a commit's entry, where it was granted
-  abbrev pub entry_if : ℕ → Reply E → Option Track → List Entry
+  abbrev pub entry_if : ℕ → Reply E → Track → List Entry
   entry_if k (begun b) t = []
   entry_if k (own e) t = []
   entry_if k (saw v) t = []
   entry_if k (overwrites n) t = []
-  entry_if k (granted g) t = option_to_list (option_map (entry_at k g.low) t)
+  entry_if k (granted g) t = entry_at k g.low t ∷ []
   entry_if k dropped t = []
   entry_if k (refused c) t = []
 
-  abbrev pub entry_for : Call E → Reply E → Option Track → List Entry
+  abbrev pub entry_for : Call E → Reply E → Track → List Entry
   entry_for (Begin k) x t = []
   entry_for (Read k r) x t = []
   entry_for (Write k r e) x t = []
   entry_for (Commit k) x t = entry_if k x t
   entry_for (Drop k) x t = []
 
-  -- the track that a call finds at its console, if there is such a console
-  abbrev pub track_for : LogState E → Call E → Option Track
-  track_for s c = given_by (track_told s (console_of c))
+  -- the track that a call finds at the console that it asks to commit
+  abbrev pub track_for : LogState E → Call E → Track
+  track_for s (Begin k) = no_track
+  track_for s (Read k r) = no_track
+  track_for s (Write k r e) = no_track
+  track_for s (Commit k) = track_at s (k % 16)
+  track_for s (Drop k) = no_track
 
 -- what is kept of calls for the day file, each with what the log answered
 abbrev pub filed_in : {E : Type 0} → Rules → LogState E → List (Call E) → List Entry

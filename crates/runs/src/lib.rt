@@ -4,7 +4,6 @@
 ghost use Rattle.std.specs.Prelude.{◌≡◌, ◌++◌, map, IfOk, OnOk};
 ghost use Rattle.std.specs.Option.{option_map, option_to_list};
 ghost use Rattle.certifier.specs.Meaning.{step};
-ghost use Rattle.runs.specs.History.{console_of};
 ghost use Rattle.certifier.specs.Entries.{track_of, entry_by};
 ghost use Rattle.runs.specs.Outcomes.{entry_for, track_for, reply_of, replies_of, Plays, Runs};
 ghost use Rattle.certifier.specs.Logs.{log_state};
@@ -46,11 +45,11 @@ struct Played<E> {
 }
 
 // What is kept of a call with this answer, which found its transaction at this track.
-fn entry_for<E: Copy>(call: &Call<E>, answer: &Answer<E>, track: Option<Track>) -> Option<DayEntry>
-    ensures { option_to_list (option_map entry_by result) ≡ entry_for call.now (reply_of answer.now) (option_map track_of track) }
+fn entry_for<E: Copy>(call: &Call<E>, answer: &Answer<E>, track: Track) -> Option<DayEntry>
+    ensures { option_to_list (option_map entry_by result) ≡ entry_for call.now (reply_of answer.now) (track_of track) }
 {
-    match (call, answer, track) {
-        (Call::Commit(console), Answer::Granted(grant), Some(track)) => Some(DayEntry {
+    match (call, answer) {
+        (Call::Commit(console), Answer::Granted(grant)) => Some(DayEntry {
             console: *console,
             low: grant.low,
             track,
@@ -64,9 +63,9 @@ fn keep<E: Copy>(
     entries: &mut Vec<DayEntry>,
     call: &Call<E>,
     answer: &Answer<E>,
-    track: Option<Track>,
+    track: Track,
 ) -> Result<(), AllocError>
-    ensures { OnOk result (map entry_by entries.new.items ≡ map entry_by entries.old.items ++ entry_for call.now (reply_of answer.now) (option_map track_of track)) }
+    ensures { OnOk result (map entry_by entries.new.items ≡ map entry_by entries.old.items ++ entry_for call.now (reply_of answer.now) (track_of track)) }
 {
     if let Some(entry) = entry_for(call, answer, track) {
         entries.push(entry)?;
@@ -103,26 +102,16 @@ fn apply<S: Store<E>, E: Copy>(log: &mut Log<S, E>, call: Call<E>) -> Answer<E>
     }
 }
 
-// The console that a call is made at.
-fn console_of<E: Copy>(call: &Call<E>) -> u32
-    ensures { result ≡ console_of call.now }
+// The track of the transaction that a call asks to commit. A console above 15 is given some track: the log refuses it.
+fn track_for<S: Store<E>, E: Copy>(log: &Log<S, E>, call: &Call<E>) -> Track
+    ensures { track_of result ≡ track_for (log_state S.Store.state log.now) call.now }
 {
     match call {
-        Call::Begin(console) => *console,
-        Call::Read(console, _) => *console,
-        Call::Write(console, _, _) => *console,
-        Call::Commit(console) => *console,
-        Call::Drop(console) => *console,
-    }
-}
-
-// What is kept of the transaction at the console of a call, if there is such a console.
-fn track_for<S: Store<E>, E: Copy>(log: &Log<S, E>, call: &Call<E>) -> Option<Track>
-    ensures { option_map track_of result ≡ track_for (log_state S.Store.state log.now) call.now }
-{
-    match log.track(console_of(call)) {
-        Ok(track) => Some(track),
-        Err(_) => None,
+        Call::Commit(console) => match log.track(*console % 16) {
+            Ok(track) => track,
+            Err(_) => Track::new(),
+        },
+        _ => Track::new(),
     }
 }
 

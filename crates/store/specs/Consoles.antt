@@ -12,4 +12,4 @@ module _ {E : Type 0} where
 
   -- the records at which a console has an entry pending, by first write
   abbrev pub records_at : List (Option (Console E)) → ℕ → List ℕ
-  records_at cs k = ats (pend_at cs k)
+  records_at cs k = map (λ p. p.at) (pend_at cs k)
