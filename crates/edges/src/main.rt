@@ -7,9 +7,9 @@ use versions::Versions;
 
 mod ask;
 mod logs;
-mod runs;
 mod say;
 mod scenes;
+mod sequences;
 mod stores;
 
 /// The store that is asked.
@@ -25,5 +25,5 @@ fn main(rt: HostRuntime) -> anyhow::Result<()> {
     logs::show::<Rides>(rt)?;
     scenes::stale::<Versions<u32, Snapshot>>(rt)?;
     scenes::stale::<Log<Versions<u32, Snapshot>, u32>>(rt)?;
-    runs::show::<Rides>(rt)
+    sequences::show::<Rides>(rt)
 }

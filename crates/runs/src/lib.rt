@@ -107,10 +107,7 @@ fn track_for<S: Store<E>, E: Copy>(log: &Log<S, E>, call: &Call<E>) -> Track
     ensures { track_of result ≡ track_for (log_state S.Store.state log.now) call.now }
 {
     match call {
-        Call::Commit(console) => match log.track(*console % 16) {
-            Ok(track) => track,
-            Err(_) => Track::new(),
-        },
+        Call::Commit(console) => log.track(*console % 16).unwrap(),
         _ => Track::new(),
     }
 }

@@ -29,16 +29,22 @@ module _ {E : Type 0} where
         let z = ap length q in
         omega arith
 
-    module _ (b : ℕ) (is : get_or (consoles_of a) k None ≡ Some (record { began = b; pending = pend_at (consoles_of a) k })) (r : ℕ) (e : E) where
-      wrote_list : pending_list (wrote (get_or (consoles_of a) k None) r e) ≡ replaced (pend_at (consoles_of a) k) r e
-      wrote_list = ap (λ c. pending_list (wrote c r e)) is
+    -- a console that holds an entry of the record has as many when that entry is replaced
+    module _ (r : ℕ) (e : E) where
+      rewrote_long : (c : Option (Console E)) → holds (pending_list c) r ≡ true → length (pending_list (wrote c r e)) ≡ length (pending_list c)
+      rewrote_long None h = absurd (both_ways false refl h)
+      rewrote_long (Some c) h = replaced_long c.pending r e h
 
       pub total_same : holds (pend_at (consoles_of a) k) r ≡ true → pending_in (set (consoles_of a) k (wrote (get_or (consoles_of a) k None) r e)) ≡ pending_in (consoles_of a)
       total_same h =
           let n = sixteen_consoles a in
           let t = pending_set (consoles_of a) k (wrote (get_or (consoles_of a) k None) r e) (omega arith) in
-          let z = ap length wrote_list ∙ replaced_long (pend_at (consoles_of a) k) r e h in
+          let z = rewrote_long (get_or (consoles_of a) k None) h in
           omega arith
+
+    module _ (b : ℕ) (is : get_or (consoles_of a) k None ≡ Some (record { began = b; pending = pend_at (consoles_of a) k })) (r : ℕ) (e : E) where
+      wrote_list : pending_list (wrote (get_or (consoles_of a) k None) r e) ≡ replaced (pend_at (consoles_of a) k) r e
+      wrote_list = ap (λ c. pending_list (wrote c r e)) is
 
       pub total_more : any_holds (consoles_of a) r ≡ false → pending_in (set (consoles_of a) k (wrote (get_or (consoles_of a) k None) r e)) ≡ pending_in (consoles_of a) + 1
       total_more h =

@@ -43,12 +43,11 @@ impl<E: Copy> Sessions<E> {
 
     // What the console has pending at the record, if it has an entry there.
     pub(crate) fn own(&self, console: u32, at: u32) -> Option<E>
-        requires near { console < 16 }
-        requires within { at < records_of self.now }
+        requires { at < records_of self.now }
         ensures { result ≡ own_at (pend_at (consoles_of self.now) console) at }
     {
         // Most reads come before the first write of their transaction: those need no search.
-        if self.pending(console).len() == 0 {
+        if console < 16 && self.pending(console).len() == 0 {
             return None;
         }
         self.held(console, at)

@@ -23,14 +23,10 @@ pub invariant_of-self : goal.invariant_of-self
 invariant_of-self g c =
     let v = c.args.self.now in
     let e = c.replace.ensures in
-    let live = c.in_ok-began.ensures in
     let h = c.in-Some.hold in
     let f = c.in-Some.ensures in
-    let same : h.console ≡ c.args.console = omega arith in
-    let own : holds (pend_at (consoles_of v.sessions) c.args.console) c.args.at ≡ true =
-    ap (λ x. holds (pend_at (consoles_of v.sessions) x) c.args.at) (sym same) ∙ held_here v.sessions c.args.at h.console h.place f.1 f.2 in
-    let t = total_same v.sessions c.args.console live.0 _ live.1 c.args.at c.args.entry own in
-    let p = ap pending_in (e.consoles ∙ ap (λ x. set (consoles_of v.sessions) x (wrote (get_or (consoles_of v.sessions) x None) c.args.at c.args.entry)) same) in
+    let t = total_same v.sessions h.console f.0 c.args.at c.args.entry (held_here v.sessions c.args.at h.console h.place f.1 f.2) in
+    let p = ap pending_in e.consoles in
     record { times = v.times; alike = (e.records ∙ v.alike.0, e.room ∙ v.alike.1); used = let u = v.used in omega arith }
 
 pub returns-then-not-admits : goal.returns-then-not-admits
