@@ -9,9 +9,9 @@ invariant_of-self g c =
     let k = c.args.console in
     let x = c.index_mut.result.now in
     let at = c.index_mut.ensures.value in
-    let none = sym (session_pending a k c.requires.0 x at) ∙ ap pending_list c.requires.1 in
-    let kept = clear_kept a k c.requires.0 x at _ a.count a.sixteen.1 (session_room a k c.requires.0 x at) (ap length none) (let z = ap length none in omega arith) in
-    record { sixteen = kept.sixteen; reserved = kept.reserved; empty = kept.empty; near = kept.near; listed = kept.listed; held = kept.held; placed = kept.placed; counted = kept.counted }
+    let none = sym (session_pending a k.number k.few x at) ∙ ap pending_list c.requires in
+    let kept = clear_kept a k.number k.few x at _ a.count (session_room a k.number k.few x at) none (let z = ap length none in omega arith) in
+    record { sixteen = kept.sixteen; reserved = kept.reserved; empty = kept.empty; listed = kept.listed; held = kept.held; placed = kept.placed; counted = kept.counted }
 
 pub returns : goal.returns
 returns g c =
@@ -19,5 +19,5 @@ returns g c =
     let k = c.args.console in
     let x = c.index_mut.result.now in
     let at = c.index_mut.ensures.value in
-    let none = sym (session_pending a k c.requires.0 x at) ∙ ap pending_list c.requires.1 in
-    record { consoles = open_is a k c.requires.0 x at _ c.args.stamp refl none; records = refl; room = refl }
+    let none = sym (session_pending a k.number k.few x at) ∙ ap pending_list c.requires in
+    record { consoles = open_is a k.number k.few x at _ c.args.stamp refl none; records = refl }

@@ -7,10 +7,3 @@ pub(crate) struct Row<E> {
     pub(crate) owner: u32,
     pub(crate) older: Option<u16>,
 }
-
-// A place of the table: free, with its position in the stack of free places, or used.
-#[derive(Clone, Copy)]
-pub(crate) enum Place<E> {
-    Free(u16),
-    Used(Row<E>),
-}
