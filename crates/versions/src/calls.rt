@@ -48,7 +48,7 @@ impl<E: Copy, K: Kind> Store<E> for Versions<E, K> {
         }
         match self.sessions.own(console, at) {
             Some(entry) => Ok(Seen::Own(entry)),
-            None => Ok(Seen::Committed(self.table.shown::<K>(at, began))),
+            None => Ok(Seen::Committed(*self.table.shown::<K>(at, began))),
         }
     }
 
