@@ -8,7 +8,7 @@ use crate::table::Table;
 use std::alloc::Global;
 use std::marker::PhantomData;
 use store::kind::Kind;
-use store::{ConsoleId, OpenFault, Refusal, Seen, Store, TableSize, Version};
+use store::{ConsoleId, OpenFault, Refusal, Seen, Store, TableSize};
 
 impl<E: Copy, K: Kind> Store<E> for Versions<E, K> {
     ghost rules = { K.Kind.rules };
@@ -48,19 +48,7 @@ impl<E: Copy, K: Kind> Store<E> for Versions<E, K> {
         }
         match self.sessions.own(console, at) {
             Some(entry) => Ok(Seen::Own(entry)),
-            None => {
-                // Kept: field by field; a copy of the whole was tried, and took 67 ns a transaction in place of 61.
-                let Version {
-                    number,
-                    stamp,
-                    entry,
-                } = self.table.shown::<K>(at, began);
-                Ok(Seen::Committed(Version {
-                    number,
-                    stamp,
-                    entry,
-                }))
-            }
+            None => Ok(Seen::Committed(*self.table.shown::<K>(at, began))),
         }
     }
 

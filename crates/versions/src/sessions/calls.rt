@@ -20,7 +20,11 @@ impl<E: Copy> Sessions<E> {
     pub(crate) fn began(&self, console: ConsoleId) -> Option<u16>
         ensures { slice_index_or (consoles_of self.now) console.number None ≡ console_with result (pend_at (consoles_of self.now) console.number) }
     {
-        self.sessions[console.number as usize].began
+        // By reference: a copy of the whole option would be one load over two fresh stores.
+        self.sessions[console.number as usize]
+            .began
+            .as_ref()
+            .copied()
     }
 
     // The begin stamp of a console that must be open.

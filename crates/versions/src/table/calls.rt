@@ -32,17 +32,17 @@ impl<E: Copy> Table<E> {
     }
 
     // The version at a place that has one.
-    fn used(&self, place: u16) -> Row<E>
+    fn used(&self, place: u16) -> &Row<E>
         requires { 0 < depth (places_of self.now) place }
-        ensures { Some result ≡ place_at (places_of self.now) place }
+        ensures { Some result.now ≡ place_at (places_of self.now) place }
     {
-        self.places[place as usize].unwrap()
+        self.places[place as usize].as_ref().unwrap()
     }
 
     // The version of the record `at` that a read sees which began at `began`.
-    pub(crate) fn shown<K: Kind>(&self, at: u32, began: u16) -> Version<E>
+    pub(crate) fn shown<K: Kind>(&self, at: u32, began: u16) -> &Version<E>
         requires { at < length (chains_of self.now) }
-        ensures { result ≡ picked K.Kind.rules (origin (first_of self.now)) (slice_index_or (chains_of self.now) at []) began }
+        ensures { result.now ≡ picked K.Kind.rules (origin (first_of self.now)) (slice_index_or (chains_of self.now) at []) began }
     {
         let mut row = self.used(self.newest[at as usize]);
         // Kept: a loop, since the oldest version is the answer where none passes, and `find` would give nothing there.
@@ -52,7 +52,7 @@ impl<E: Copy> Table<E> {
             };
             row = self.used(older);
         }
-        row.version
+        &row.version
     }
 
     // The newest version of the record `at`.

@@ -1,10 +1,9 @@
-use Rattle.std.proofs.Common.{◌∙◌, arith}
+use Rattle.std.proofs.Common.{arith}
 use Rattle.versions.proofs.Totals.{total}
 use Rattle.versions.proofs.calls.VersionsStore.begin.Goals as goal
 
-pub invariant_of-self : goal.invariant_of-self
-invariant_of-self g c =
-    let v = c.args.self.now in
-    let e = c.open.ensures in
-    let t = total e c.in_ok-console.console.few in
-    record { times = v.times; alike = e.records ∙ v.alike; used = let u = v.used in omega arith }
+pub invariant_of-self-clause-used : goal.invariant_of-self-clause-used
+invariant_of-self-clause-used g c =
+    let more = total c.open.ensures c.in_ok-console.console.few in
+    let room = c.args.self.now.used in
+    omega arith

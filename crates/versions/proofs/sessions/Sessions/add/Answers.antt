@@ -1,4 +1,4 @@
-use Rattle.std.proofs.Common.{◌≤◌, length, vec_items, vec_capacity, refl, arith}
+use Rattle.std.proofs.Common.{rules, ◌≤◌, length, vec_items, vec_capacity, refl, arith}
 use Rattle.std.proofs.lemmas.List.{length-set}
 use Rattle.versions.proofs.Kepts.{session_room, session_count, session_short, add_kept, add_is}
 use Rattle.versions.proofs.sessions.Sessions.add.Goals as goal
@@ -26,9 +26,9 @@ invariant_of-self g c =
     let at = c.index_mut-session.ensures.value in
     let cap = session_room a k.number k.few x at in
     let long : length (vec_items a.holds) ≤ vec_capacity c.push_reserved.new.self = omega arith in
-    let kept = add_kept a k.number k.few x at _ c.args.at c.args.entry refl c.push_reserved.ensures.items c.requires.within c.requires.free c.requires.live long
+    let kept = add_kept a k.number k.few x at (record { began = x.began; pending = c.push_reserved.new.self }) c.args.at c.args.entry refl c.push_reserved.ensures.items c.requires.within c.requires.free c.requires.live long
     (record { console = k; place = c.len-place.result }) refl (omega arith) in
-    record { sixteen = kept.sixteen; reserved = kept.reserved; empty = kept.empty; listed = kept.listed; held = kept.held; placed = kept.placed; counted = kept.counted }
+    search rules
 
 pub returns : goal.returns
 returns g c =

@@ -1,4 +1,5 @@
-use Rattle.std.proofs.Common.{refl}
+use Rattle.std.proofs.Common.{rules, refl}
+use Rattle.std.specs.Vec.{with_item}
 use Rattle.versions.proofs.Kepts.{session_room, replace_kept, replace_is}
 use Rattle.versions.proofs.sessions.Sessions.replace.Goals as goal
 
@@ -8,8 +9,8 @@ invariant_of-self g c =
     let k = c.args.hold.console in
     let x = c.index_mut.result.now in
     let at = c.index_mut.ensures.value in
-    let kept = replace_kept a k.number k.few x at _ c.args.at c.args.hold.place c.args.entry refl refl c.requires.0 c.requires.1 (session_room a k.number k.few x at) in
-    record { sixteen = kept.sixteen; reserved = kept.reserved; empty = kept.empty; listed = kept.listed; held = kept.held; placed = kept.placed; counted = kept.counted }
+    let kept = replace_kept a k.number k.few x at (record { began = x.began; pending = with_item x.pending c.args.hold.place (record { at = c.args.at; entry = c.args.entry }) }) c.args.at c.args.hold.place c.args.entry refl refl c.requires.0 c.requires.1 (session_room a k.number k.few x at) in
+    search rules
 
 pub returns : goal.returns
 returns g c =

@@ -1,4 +1,4 @@
-use Rattle.std.proofs.Common.{◌-◌, None, refl, arith}
+use Rattle.std.proofs.Common.{rules, ◌-◌, None, refl, arith}
 use Rattle.versions.proofs.Kepts.{session_room, session_count, clear_kept, shut_is}
 use Rattle.versions.proofs.sessions.Sessions.shut.Goals as goal
 
@@ -16,7 +16,7 @@ invariant_of-self g c =
     let most = session_count a k.number k.few x at in
     let cap = session_room a k.number k.few x at in
     let kept = clear_kept a k.number k.few x at (record { began = None; pending = c.clear.new.self }) (a.count - c.len.result) (omega (arith, c.clear.ensures.capacity)) c.clear.ensures.items (omega arith) in
-    record { sixteen = kept.sixteen; reserved = kept.reserved; empty = kept.empty; listed = kept.listed; held = kept.held; placed = kept.placed; counted = kept.counted }
+    search rules
 
 pub returns : goal.returns
 returns g c =

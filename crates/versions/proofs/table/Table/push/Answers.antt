@@ -1,4 +1,4 @@
-use Rattle.std.proofs.Common.{◌≡◌, ◌++◌, [], ◌∷◌, get_or, set, vec_items, refl, ap, ◌∙◌, arith}
+use Rattle.std.proofs.Common.{rules, ◌≡◌, ◌++◌, [], ◌∷◌, get_or, set, vec_items, refl, ap, ◌∙◌}
 use Rattle.std.specs.Option.{option_to_list}
 use Rattle.std.proofs.lemmas.List.{length-set}
 use Rattle.store.specs.declared.Version.{Version}
@@ -13,19 +13,7 @@ invariant_of-self g c =
     let popped : vec_items a.free ≡ vec_items c.pop.new.self ++ c.unwrap-place.result ∷ [] = c.pop.ensures.items ∙ ap (λ o. vec_items c.pop.new.self ++ option_to_list o) c.unwrap-place.ensures in
     let kept = table_kept a c.args.at c.requires.within c.index.result.now c.index.ensures c.unwrap-place.result (vec_items c.pop.new.self) popped
     (record { number = c.count.result; stamp = c.args.stamp; entry = c.args.entry }) c.count.ensures in
-    record {
-      fits = (f.0, f.1, omega (arith, c.pop.ensures.capacity));
-      down = kept.down;
-      live = kept.live;
-      mine = kept.mine;
-      headed = kept.headed;
-      owned = kept.owned;
-      numbered = kept.numbered;
-      inside = kept.inside;
-      vacant = kept.vacant;
-      apart = kept.apart;
-      counted = kept.counted;
-    }
+    search rules
 
 pub returns : goal.returns
 returns g c =

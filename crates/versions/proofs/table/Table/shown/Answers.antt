@@ -5,12 +5,13 @@ use Rattle.versions.specs.Tables.{places_of}
 use Rattle.versions.proofs.Ways.{head_chain, chain_used}
 use Rattle.versions.proofs.Picks.{pick_here, pick_first, pick_older, linked_at}
 use Rattle.versions.proofs.table.Table.shown.Goals as goal
+use Rattle.versions.proofs.table.Table.shown.Goals.{else-loop-older-test, then-loop-older-test+in_default}
 
 pub loop-older-init : goal.loop-older-init
 loop-older-init g c =
     let a = c.args.self.now in (
-      linked_at (places_of a) a.down a.live c.index.result.now c.used-row.result c.used-row.ensures,
-      ap (λ x. picked g.K.Kind.rules (origin a.first) x c.args.began) (head_chain a c.args.at c.requires c.index.result.now c.index.ensures ∙ chain_used a.first (places_of a) c.index.result.now c.used-row.result c.used-row.ensures),
+      linked_at (places_of a) a.down a.live c.index.result.now c.used-row.result.now c.used-row.ensures,
+      ap (λ x. picked g.K.Kind.rules (origin a.first) x c.args.began) (head_chain a c.args.at c.requires c.index.result.now c.index.ensures ∙ chain_used a.first (places_of a) c.index.result.now c.used-row.result.now c.used-row.ensures),
     )
 
 pub loop-older-smaller : goal.loop-older-smaller
@@ -23,16 +24,16 @@ pub loop-older-preserved : goal.loop-older-preserved
 loop-older-preserved g c =
     let a = c.args.self.now in
     let next = c.used-row-in-loop-older in
-    let step = pick_older g.K.Kind.rules g.K.Kind.test g.met.K.Kind.tested a.first (places_of a) (origin a.first) c.args.began c.loop-older.row
-    a.down a.live c.loop-older.invariant.0 c.in-Some.older (sym c.loop-older-test.ensures) c.in-Some.is next.result next.ensures in
-    (linked_at (places_of a) a.down a.live c.in-Some.older next.result next.ensures, c.loop-older.invariant.1 ∙ step)
+    let step = pick_older g.K.Kind.rules g.K.Kind.test g.met.K.Kind.tested a.first (places_of a) (origin a.first) c.args.began c.loop-older.row.now
+    a.down a.live c.loop-older.invariant.0 c.in-Some.older (sym c.loop-older-test.ensures) c.in-Some.is next.result.now next.ensures in
+    (linked_at (places_of a) a.down a.live c.in-Some.older next.result.now next.ensures, c.loop-older.invariant.1 ∙ step)
 
-pub returns-after-loop-older : goal.returns-after-loop-older
-returns-after-loop-older g c =
+pub returns : goal.returns
+returns g c =
     let a = c.args.self.now in
-    sym (c.loop-older.invariant.1 ∙ pick_here g.K.Kind.rules g.K.Kind.test g.met.K.Kind.tested a.first (places_of a) (origin a.first) c.args.began c.loop-older.row (sym c.loop-older-test.ensures))
-
-pub returns-in_default : goal.returns-in_default
-returns-in_default g c =
-    let a = c.args.self.now in
-    sym (c.loop-older.invariant.1 ∙ pick_first g.K.Kind.rules g.K.Kind.test g.met.K.Kind.tested a.first (places_of a) (origin a.first) c.args.began c.loop-older.row c.in_default.is)
+    let rule = g.K.Kind.rules in
+    let row = c.loop-older.row.now in
+    sym (c.loop-older.invariant.1 ∙ elim c.loop-older-test.branch [
+      | else-loop-older-test w ↦ pick_here rule g.K.Kind.test g.met.K.Kind.tested a.first (places_of a) (origin a.first) c.args.began row (sym w.loop-older-test.ensures)
+      | then-loop-older-test+in_default w ↦ pick_first rule g.K.Kind.test g.met.K.Kind.tested a.first (places_of a) (origin a.first) c.args.began row w.in_default.is
+    ])
