@@ -3,11 +3,11 @@ ghost use Rattle.std.specs.Prelude.{◌≡◌, ℕ, ◌%◌};
 ghost use Rattle.store.specs.Refusals as store;
 ghost use Rattle.certifier.specs.Refusals.{code_of, passed};
 ghost use Rattle.certifier.specs.Marking.{verdict_of};
-ghost use Rattle.certifier.specs.Meaning.{track_at, begin_step, read_step, write_step, commit_step, drop_step};
-ghost use Rattle.certifier.specs.Logs.{log_state, begin_reply, read_reply, write_reply, commit_reply, drop_reply};
+ghost use Rattle.certifier.specs.Meaning.{track_at, begin_step, read_step, write_step, commit_step, drop_step, step};
+ghost use Rattle.certifier.specs.Logs.{log_state, begin_reply, read_reply, write_reply, commit_reply, drop_reply, reply_of};
 
 use crate::log::Log;
-use crate::{Grant, LogRefusal};
+use crate::{Accepted, Answer, Call, Grant, LogRefusal};
 use store::{Refusal, Seen, Store};
 
 impl From<Refusal> for LogRefusal {
@@ -106,5 +106,23 @@ impl<S: Store<E>, E: Copy> Log<S, E> {
         self.store.drop(console)?;
         self.tracks.clear(console);
         Ok(())
+    }
+
+    /// Makes a call that is given as a value.
+    pub fn call(&mut self, call: Call<E>) -> Answer<E>
+        ensures { (reply_of result, log_state S.Store.state self.new) ≡ step S.Store.rules (log_state S.Store.state self.old) call }
+    {
+        Ok(match call {
+            Call::Begin(console) => Accepted::Begun(self.begin(console)?),
+            Call::Read(console, at) => Accepted::Seen(self.read(console, at)?),
+            Call::Write(console, at, entry) => {
+                Accepted::Overwrites(self.write(console, at, entry)?)
+            }
+            Call::Commit(console) => Accepted::Granted(self.commit(console)?),
+            Call::Drop(console) => {
+                self.drop(console)?;
+                Accepted::Dropped
+            }
+        })
     }
 }

@@ -4,7 +4,7 @@
 ghost use Rattle.std.specs.Prelude.{◌≡◌};
 ghost use Rattle.certifier.specs.Refusals.{code_of};
 
-use store::{Code, Layer, Refusal};
+use store::{Code, Layer, Refusal, Seen};
 
 mod calls;
 mod entry;
@@ -86,6 +86,22 @@ pub enum Call<E> {
     /// at a console
     Drop(u32),
 }
+
+/// What an accepted call answers.
+#[derive(Clone, Copy)]
+pub enum Accepted<E> {
+    /// the begin stamp
+    Begun(u16),
+    /// what the read saw
+    Seen(Seen<E>),
+    /// the number of the version that the write will overwrite
+    Overwrites(u32),
+    Granted(Grant),
+    Dropped,
+}
+
+/// What a call is answered.
+pub type Answer<E> = Result<Accepted<E>, LogRefusal>;
 
 /// What a granted commit answers: its stamp, its low mark and its high mark.
 #[derive(Clone, Copy)]
