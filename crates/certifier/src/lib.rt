@@ -3,6 +3,7 @@
 
 ghost use Rattle.std.specs.Prelude.{◌≡◌};
 ghost use Rattle.certifier.specs.Refusals.{code_of};
+ghost use Rattle.certifier.specs.Marking.{new_mark};
 
 use store::{Code, Layer, Refusal, Seen};
 
@@ -117,6 +118,19 @@ pub struct Mark {
     pub stamp: u16,
     pub high: u16,
     pub low: Option<u16>,
+}
+
+impl Mark {
+    // The marks of a version that the commit of that stamp makes.
+    pub(crate) const fn new(stamp: u16) -> Mark
+        ensures { result ≡ new_mark stamp }
+    {
+        Mark {
+            stamp,
+            high: stamp,
+            low: None,
+        }
+    }
 }
 
 // A record that a transaction wrote, and the version that it overwrites there.
