@@ -73,6 +73,7 @@ impl Track {
     }
 
     // Puts the numbers of the overwritten versions at the front of a list that has room for them, and answers how many.
+    // Kept: it fills the caller's list, since no memory is taken after opening; `iter_mut` in a `zip` tells nothing of the list afterwards.
     pub(crate) fn fill(&self, list: &mut [u32]) -> usize
         requires { length (track_of self.now).writes ≤ length list.old }
         ensures count { result ≡ length (track_of self.now).writes }
