@@ -23,6 +23,6 @@ pub(crate) fn show(rt: HostRuntime) -> io::Result<()> {
 }
 
 fn copy(rt: HostRuntime, input: &[u8], buf: &mut [u8]) -> io::Result<()> {
-    let (buf, answer) = copy_file(input, buf);
+    let answer = copy_file(input, buf);
     filled(rt, answer, buf)
 }

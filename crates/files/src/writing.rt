@@ -97,15 +97,14 @@ fn skew_into(rt: HostRuntime, records: u32, buf: &mut [u8]) -> io::Result<()> {
         reads: &[0, 1],
         writes: &[0],
     };
-    let (buf, answer) = write_file(buf, records, &[e]);
+    let answer = write_file(buf, records, &[e]);
     filled(rt, answer, buf)
 }
 
 // One entry in a file of two records.
 fn one(rt: HostRuntime, e: &NewEntry) -> io::Result<()> {
     let mut buf = [0u8; 200];
-    let (_, answer) = write_file(&mut buf, 2, &[*e]);
-    match answer {
+    match write_file(&mut buf, 2, &[*e]) {
         Ok(len) => println!(rt; "ok, {len} bytes"),
         Err(x) => refused(rt, x),
     }
@@ -173,7 +172,7 @@ fn second_into(rt: HostRuntime, low: u32, version: u32, buf: &mut [u8]) -> io::R
         reads: &[version],
         writes: &[],
     };
-    let (buf, answer) = write_file(buf, 2, &[first, second]);
+    let answer = write_file(buf, 2, &[first, second]);
     filled(rt, answer, buf)
 }
 
