@@ -94,16 +94,7 @@ impl Progress {
         }
     }
 
-    /// Adds an entry to the file, in its buffer. Refused: 33, 34, in this sequence; then file and buffer are as before.
-    pub fn add(&mut self, buf: &mut [u8], e: &NewEntry) -> Result<(), FileRefusal>
-        ensures { (answer_by (λ u. u) code_of result, writer self.new buf.new) ≡ add_of (writer self.old buf.old) (wrote e.now) }
-    {
-        self.check(buf.len(), e)?;
-        self.put(buf, e);
-        Ok(())
-    }
-
-    // Adds an entry that is taken.
+    // Adds an entry that is taken to the file, in its buffer.
     pub(crate) fn put(&mut self, buf: &mut [u8], e: &NewEntry)
         requires { taking (length buf.old) (extent_of self.old) (wrote e.now) ≡ gives tt }
         ensures { writer self.new buf.new ≡ added (writer self.old buf.old) (wrote e.now) }
@@ -112,9 +103,9 @@ impl Progress {
         *self = self.after(e);
     }
 
-    /// Writes the trailer behind the file's entries in its buffer, and answers how many bytes the file has: none,
-    /// where the buffer has no room for the trailer.
-    pub fn close(self, buf: &mut [u8]) -> usize
+    // Writes the trailer behind the file's entries in its buffer, and answers how many bytes the file has: none,
+    // where the buffer has no room for the trailer.
+    pub(crate) fn close(self, buf: &mut [u8]) -> usize
         ensures { record { bytes = buf.new; len = result } ≡ close_of (writer self buf.old) }
     {
         if self.at + 10 > buf.len() {
@@ -143,7 +134,9 @@ impl<'a> OpenFile<'a> {
         ensures does { (answer_by (λ u. u) code_of result, writer_of self.new) ≡ add_of (writer_of self.old) (wrote e.now) }
         ensures lent { self.new.buf.ghost_name ≡ self.old.buf.ghost_name }
     {
-        self.progress.add(self.buf, e)
+        self.progress.check(self.buf.len(), e)?;
+        self.progress.put(self.buf, e);
+        Ok(())
     }
 
     /// Closes the file: the trailer is written behind its entries, and it takes no more.

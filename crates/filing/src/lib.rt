@@ -34,7 +34,9 @@ pub fn run_day<S: Store<E>, E: Copy>(
         answers,
         entries,
     } = run::<S, E>(heap, size, room, first, calls)?;
-    let records = size;
-    let day = Day { records, entries };
+    let day = Day {
+        records: size,
+        entries,
+    };
     Ok(DayRun { log, answers, day })
 }
