@@ -9,7 +9,7 @@ use Rattle.dayfile.proofs.Walks.{fits_came}
 use Rattle.daywriter.specs.Writing.{Extent, Writer, started, start_of, taking, after, added, settled, add_of}
 use Rattle.daywriter.specs.Files.{and_then, taken_all, check_all}
 use Rattle.daywriter.proofs.Overs.{length_entry}
-use Rattle.daywriter.proofs.Runs.{Filling, taken_to, filling_takes, filling_more}
+use Rattle.daywriter.proofs.Runs.{Filling, taken_to, filling_more}
 use Rattle.certifier.specs.Entries.{Entry}
 use Rattle.filing.specs.Filing.{commit_of, commits_of}
 
@@ -68,10 +68,6 @@ module _ {A : Type 0} (f : A → Entry) (xs : List A) where
     turn =
         let P : List Commit → Type 0 = λ l. Filling b r (commits_of (map f (take i xs))) l w in
         subst P (at_drop_more (λ (l : List A). commits_of (map f l)) xs i d h ∙ ap (λ (x : A). commit_of (f x) ∷ commits_of (map f (drop (i + 1) xs))) (sym is)) inv
-
-    -- the next is taken
-    pub turn_takes : taking (length w.bytes) w.extent (commit_of (f a)) ≡ gives tt
-    turn_takes = filling_takes b r (commits_of (map f (take i xs))) (commits_of (map f (drop (i + 1) xs))) w (commit_of (f a)) turn
 
     -- and the file goes on
     pub turn_more : (v : Writer) → v ≡ added w (commit_of (f a)) → Filling b r (commits_of (map f (take (i + 1) xs))) (commits_of (map f (drop (i + 1) xs))) v

@@ -12,8 +12,8 @@ returns c =
     let e = commit_of (entry_by c.args.entry.now) in
     let list = c.overwritten-count.new.list in
     let n = c.overwritten-count.result in
-    let x : Commit = record { console = e.console; low = e.low; reads = c.noted.result.now; writes = take (n - 0) list } in
-    let same = commit_same x e refl refl c.noted.ensures (front_is n list e.writes _ c.overwritten-count.ensures.count c.overwritten-count.ensures.list) in
+    let x : Commit = record { console = e.console; low = c.from.result; reads = c.noted.result.now; writes = take (n - 0) list } in
+    let same = commit_same x e refl c.from.ensures c.noted.ensures (front_is n list e.writes _ c.overwritten-count.ensures.count c.overwritten-count.ensures.list) in
     record {
       does = add_taken (writer_of c.args.file.now) (writer_of c.add.new.self) _ x e c.add.ensures.does same c.requires;
       lent = c.add.ensures.lent;

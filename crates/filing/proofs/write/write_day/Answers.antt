@@ -8,8 +8,8 @@ use Rattle.filing.proofs.write.write_day.Goals as goal
 pub returns : goal.returns
 returns c =
     let file = file_bytes (records_of c.args.day.now) (commits_of (entries_of c.args.day.now)) in
-    let put = c.put_day-len.ensures.bytes in
+    let put = c.put_day-len.ensures in
     let bytes = c.in_ok-bytes.bytes in
-    let long = ap length put.0 ∙ length-append file _ in
-    let fits : c.put_day-len.result ≤ bytes.len = omega (arith, long, put.1, c.put_day-len.auto.buf, c.as_mut_slice.ensures.len) in
-    c.truncate.ensures.items ∙ cut_file c.put_day-len.result bytes.len file _ c.put_day-len.new.buf _ put.1 put.0 fits
+    let long = ap length put.bytes ∙ length-append file _ in
+    let fits : c.put_day-len.result ≤ bytes.len = omega (arith, long, put.len, c.put_day-len.auto.buf, c.as_mut_slice.ensures.len) in
+    c.truncate.ensures.items ∙ cut_file c.put_day-len.result bytes.len file _ c.put_day-len.new.buf _ put.len put.bytes fits

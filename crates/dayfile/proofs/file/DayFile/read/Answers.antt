@@ -1,11 +1,15 @@
-use Rattle.std.proofs.Common.{◌≡◌, ◌-◌, length, sym, arith, rules}
+use Rattle.std.proofs.Common.{◌≡◌, ◌-◌, length, take, drop, sym, arith}
+use Rattle.std.proofs.lemmas.Grind.{common_steps}
 use Rattle.store.specs.Refusals.Answer.{gives}
 use Rattle.dayfile.specs.Reading.{Shape, read_of}
 use Rattle.dayfile.proofs.Again.{whole_from}
 use Rattle.dayfile.proofs.file.DayFile.read.Goals as goal
 
-pub returns : goal.returns
-returns c =
-    let s : Shape = record { offset = length c.args.input.now - 10 - c.in-Some.t.len; records = c.in-Some.t.records; count = c.in-Some.t.count; part = c.split_at-2.result.1.now } in
-    let a : gives s ≡ read_of c.args.input.now = search rules in
-    record { answer = a; whole = whole_from c.args.input.now s (λ i. let h = c.type_inv.input i in omega arith) (sym a) }
+pub returns-clause-whole : goal.returns-clause-whole
+returns-clause-whole c =
+    let bs = c.args.input.now in
+    let t = c.in_ok-trailer.trailer in
+    let at = length c.in_ok-front.front.now - t.len in
+    let s : Shape = record { offset = at; records = t.records; count = t.count; part = take (length bs - at) (drop at bs) } in
+    let a : gives s ≡ read_of bs = grind (arith, common_steps) in
+    whole_from bs s (λ i. let h = c.type_inv.input i in omega arith) (sym a)
