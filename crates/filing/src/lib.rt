@@ -9,10 +9,12 @@ use std::alloc::Global;
 use store::{OpenFault, Store};
 
 mod day;
+mod numbers;
 mod show;
 mod write;
 
 pub use crate::day::{Day, DayRun};
+pub use crate::numbers::print_numbers;
 pub use crate::show::show_file;
 pub use crate::write::write_day;
 

@@ -5,6 +5,7 @@ ghost use Rattle.dayfile.specs.Reading.{Whole, entries_of};
 ghost use Rattle.dayfile.specs.Refusals.{code_of};
 ghost use Rattle.dayfile.specs.Said.{said, shape_of};
 ghost use Rattle.store.specs.Refusals.Answer.{gives, refuses};
+ghost use Rattle.filing.specs.Appending.{Appends};
 ghost use Rattle.filing.specs.Showing.{numbers_text, head_text, place_text, entry_text, said_text, answer_text, shown_of};
 
 use dayfile::{DayFile, Entry, FileRefusal};
@@ -12,14 +13,14 @@ use std::alloc::{AllocError, Global};
 
 // Prints one number, after a space.
 fn print_number(text: &mut String, n: u32) -> Result<(), AllocError>
-    ensures { OnOk result (string_bytes text.new ≡ string_bytes text.old ++ (codes " " ++ decimal n)) }
+    ensures { OnOk result (Appends text.old text.new (codes " " ++ decimal n)) }
 {
     write!(text, " {n}").or(Err(AllocError))
 }
 
 // Prints the numbers that pairs of bytes are.
 fn print_versions(text: &mut String, bytes: &[u8]) -> Result<(), AllocError>
-    ensures { OnOk result (string_bytes text.new ≡ string_bytes text.old ++ numbers_text (pairs bytes.now)) }
+    ensures { OnOk result (Appends text.old text.new (numbers_text (pairs bytes.now))) }
 {
     let mut rest = bytes;
     while let [high, low, more @ ..] = rest {
@@ -31,14 +32,14 @@ fn print_versions(text: &mut String, bytes: &[u8]) -> Result<(), AllocError>
 
 // Prints the head of an entry's line.
 fn print_place(text: &mut String, place: usize, console: u8, low: u16) -> Result<(), AllocError>
-    ensures { OnOk result (string_bytes text.new ≡ string_bytes text.old ++ place_text place console low) }
+    ensures { OnOk result (Appends text.old text.new (place_text place console low)) }
 {
     write!(text, "{place} console {console} low {low}").or(Err(AllocError))
 }
 
 // Prints the line of the entry at a place.
 fn print_entry(text: &mut String, place: usize, entry: &Entry) -> Result<(), AllocError>
-    ensures { OnOk result (string_bytes text.new ≡ string_bytes text.old ++ entry_text place (said entry.now)) }
+    ensures { OnOk result (Appends text.old text.new (entry_text place (said entry.now))) }
 {
     print_place(text, place, entry.console, entry.low)?;
     text.push_str(" reads")?;
@@ -52,7 +53,7 @@ fn print_entry(text: &mut String, place: usize, entry: &Entry) -> Result<(), All
 // Prints the lines of a file's entries.
 fn print_entries(text: &mut String, file: &DayFile) -> Result<(), AllocError>
     requires { Whole (shape_of file.now) }
-    ensures { OnOk result (string_bytes text.new ≡ string_bytes text.old ++ said_text (entries_of (shape_of file.now))) }
+    ensures { OnOk result (Appends text.old text.new (said_text (entries_of (shape_of file.now)))) }
 {
     let mut place: usize = 1;
     let mut entries = file.entries();
@@ -65,7 +66,7 @@ fn print_entries(text: &mut String, file: &DayFile) -> Result<(), AllocError>
 
 // Prints a file's first line.
 fn print_head(text: &mut String, file: &DayFile) -> Result<(), AllocError>
-    ensures { OnOk result (string_bytes text.new ≡ string_bytes text.old ++ head_text (shape_of file.now)) }
+    ensures { OnOk result (Appends text.old text.new (head_text (shape_of file.now))) }
 {
     let offset = file.offset;
     let length = file.part.len();
@@ -81,7 +82,7 @@ fn print_head(text: &mut String, file: &DayFile) -> Result<(), AllocError>
 // Prints a file that was read.
 fn print_file(text: &mut String, file: &DayFile) -> Result<(), AllocError>
     requires { Whole (shape_of file.now) }
-    ensures { OnOk result (string_bytes text.new ≡ string_bytes text.old ++ answer_text (gives (shape_of file.now))) }
+    ensures { OnOk result (Appends text.old text.new (answer_text (gives (shape_of file.now)))) }
 {
     print_head(text, file)?;
     print_entries(text, file)
@@ -89,7 +90,7 @@ fn print_file(text: &mut String, file: &DayFile) -> Result<(), AllocError>
 
 // Prints why there is no file.
 fn print_refusal(text: &mut String, refusal: FileRefusal) -> Result<(), AllocError>
-    ensures { OnOk result (string_bytes text.new ≡ string_bytes text.old ++ answer_text (refuses (code_of refusal))) }
+    ensures { OnOk result (Appends text.old text.new (answer_text (refuses (code_of refusal)))) }
 {
     let number = refusal.code().number;
     writeln!(text, "no {number}").or(Err(AllocError))
