@@ -19,7 +19,6 @@ mod play;
 mod print;
 mod request;
 mod response;
-mod token;
 
 // A longer sheet is not read.
 const LIMIT: usize = 32768;
