@@ -1,9 +1,9 @@
 -- Laws of numerals.
-use Rattle.std.proofs.Common.{◌≡◌, ℕ, zero, suc, ◌+◌, ◌-◌, ◌*◌, ◌<◌, ◌≤◌, true, false, not, ◌&&◌, leb, List, [], ◌∷◌, length, get_or, drop, Some, None, sym, ap, ◌∙◌, subst, arith, le-leb, leb-true}
+use Rattle.std.proofs.Common.{◌≡◌, ℕ, ◌+◌, ◌-◌, ◌*◌, ◌<◌, ◌≤◌, true, false, not, leb, List, [], ◌∷◌, length, get_or, drop, Some, None, sym, ap, ◌∙◌, subst, arith, le-leb}
 use borrow.Author.Tests.{lt-leb}
 use Rattle.std.proofs.lemmas.List.{at_drop_more, at_drop_all}
-use Rattle.std.proofs.lemmas.Bool.{and_parts, cond-true, cond-false, and_right, and_from}
-use Rattle.sheet.specs.Numerals.{is_digit, all_digits, value_from, spare_zero, numeral}
+use Rattle.std.proofs.lemmas.Bool.{cond-true, cond-false, and_right, and_from}
+use Rattle.sheet.specs.Numerals.{all_digits, value_from, spare_zero, numeral}
 
 pub value_ge : (xs : List ℕ) (n : ℕ) → n ≤ value_from n xs
 value_ge [] n = omega arith

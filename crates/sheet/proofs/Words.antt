@@ -1,6 +1,6 @@
 -- One step of a walk over the words of a line.
 use Rattle.std.proofs.Common.{◌≡◌, ◌==◌, ℕ, suc, ◌+◌, ◌-◌, ◌<◌, ◌≤◌, ◌⊎◌, Bool, true, false, not, cond, eqb, ltb, List, [], ◌∷◌, length, take, drop, Some, None, Option, Bor, sym, refl, ap, ◌∙◌, ⊎_elim, arith, length-take, length-drop, lt-ltb, le-ltb}
-use Rattle.std.specs.List.{position_or_len, slice_split, slice_range, onto_first}
+use Rattle.std.specs.List.{position_or_len, slice_range, onto_first}
 use Rattle.std.specs.Option.{MatchOption, unwrap_or}
 use Rattle.std.proofs.lemmas.Bool.{cases_lt}
 use Rattle.std.proofs.lemmas.List.{take_all}
@@ -10,7 +10,7 @@ use Rattle.sheet.specs.Cuts.{placed, pieces}
 use Rattle.sheet.specs.Walks.{words_left}
 
 -- the place at which a list is first cut, from what `position` answers
-pub cut_at : (p : ℕ → Bool) (bs : List ℕ) (found : Option ℕ) (cut : ℕ) → found ≡ cond (ltb (position_or_len p bs) (length bs)) (Some (position_or_len p bs)) None
+pub cut_at : {X : Type 0} (p : X → Bool) (bs : List X) (found : Option ℕ) (cut : ℕ) → found ≡ cond (ltb (position_or_len p bs) (length bs)) (Some (position_or_len p bs)) None
     → cut ≡ unwrap_or found (length bs) → cut ≡ position_or_len p bs
 cut_at p bs found cut f e =
     let n = position_or_len p bs in

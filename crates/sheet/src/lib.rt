@@ -32,11 +32,10 @@ pub fn answer_sheet(heap: Global, sheet: &[u8]) -> Result<String, AllocError>
         return String::from_str(heap, "long\n");
     }
     let items = read_lines(heap, sheet)?;
-    let mut responses = Vec::new(heap);
-    let ending = play(heap, items.as_slice(), &mut responses)?;
+    let played = play(heap, items.as_slice())?;
     let mut text = String::new(heap);
-    print_lines(&mut text, responses.as_slice())?;
-    if let Some(ending) = &ending {
+    print_lines(&mut text, played.responses.as_slice())?;
+    if let Some(ending) = &played.ending {
         print_order(&mut text, ending.stamps.as_slice())?;
     }
     Ok(text)
@@ -51,8 +50,8 @@ pub fn file_sheet(heap: Global, sheet: &[u8]) -> Result<Vec<u8>, AllocError>
         return Vec::from_slice(heap, b"long\n");
     }
     let items = read_lines(heap, sheet)?;
-    let mut responses = Vec::new(heap);
-    match play(heap, items.as_slice(), &mut responses)? {
+    let played = play(heap, items.as_slice())?;
+    match &played.ending {
         Some(ending) => write_day(heap, &ending.day),
         None => Ok(Vec::new(heap)),
     }
