@@ -1,11 +1,11 @@
 -- The lines before an accepted open, and those from it on.
-use Rattle.std.proofs.Common.{◌≡◌, ℕ, ◌+◌, ◌≤◌, Bool, true, false, not, cond, List, [], ◌∷◌, ◌++◌, map, length, take, drop, is_some, None, Result, sym, refl, ap, ◌∙◌, arith}
+use Rattle.std.proofs.Common.{◌≡◌, ◌+◌, ◌≤◌, Bool, true, false, not, cond, List, [], ◌∷◌, ◌++◌, map, length, take, drop, is_some, Result, sym, refl, ap, ◌∙◌, arith}
 use Rattle.std.specs.List.{position_or_len}
 use Rattle.sheet.specs.declared.fault.Fault.{Fault}
 use Rattle.sheet.specs.declared.request.Request.{Request}
 use Rattle.sheet.specs.Answers.{Item}
 use Rattle.sheet.specs.Faults.{told}
-use Rattle.sheet.specs.Stretches.{sizes_of, opening, until_open, from_open}
+use Rattle.sheet.specs.Stretches.{sizes_of, until_open, from_open}
 
 -- how many they are, as the place of the first accepted open
 pub until_place : (items : List (Result Request Fault)) → length (until_open (map told items)) ≡ position_or_len (λ x. is_some (sizes_of (told x))) items
@@ -57,13 +57,6 @@ until_none (i ∷ is) = go (is_some (sizes_of i)) refl (until_none is)
     go : (t : Bool) → is_some (sizes_of i) ≡ t → until_open (from_open is) ≡ [] → until_open (cond t (i ∷ is) (from_open is)) ≡ []
     go true e h = ap (λ t. cond {A = List Item} t [] (i ∷ until_open is)) e
     go false e h = h
-
--- where no line is until_open and the first opens nothing, there is none
-pub none_left : (is : List Item) → until_open is ≡ [] → opening is ≡ None → is ≡ []
-none_left [] q o = refl
-none_left (i ∷ is) q o =
-    let more : until_open (i ∷ is) ≡ i ∷ until_open is = ap (λ x. cond {A = List Item} (is_some x) [] (i ∷ until_open is)) o in
-    let z : ◌≡◌ {A = ℕ} 0 1 = cc in absurd (omega arith)
 
 pub from_short : (is : List Item) → length (from_open is) ≤ length is
 from_short [] = omega arith

@@ -31,8 +31,7 @@ pub fn answer_sheet(heap: Global, sheet: &[u8]) -> Result<String, AllocError>
     if sheet.len() > LIMIT {
         return String::from_str(heap, "long\n");
     }
-    let items = read_lines(heap, sheet)?;
-    let played = play(heap, items.as_slice())?;
+    let played = play(heap, read_lines(heap, sheet)?.as_slice())?;
     let mut text = String::new(heap);
     print_lines(&mut text, played.responses.as_slice())?;
     if let Some(ending) = &played.ending {
@@ -49,8 +48,7 @@ pub fn file_sheet(heap: Global, sheet: &[u8]) -> Result<Vec<u8>, AllocError>
     if sheet.len() > LIMIT {
         return Vec::from_slice(heap, b"long\n");
     }
-    let items = read_lines(heap, sheet)?;
-    let played = play(heap, items.as_slice())?;
+    let played = play(heap, read_lines(heap, sheet)?.as_slice())?;
     match &played.ending {
         Some(ending) => write_day(heap, &ending.day),
         None => Ok(Vec::new(heap)),

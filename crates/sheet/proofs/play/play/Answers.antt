@@ -1,13 +1,12 @@
-use Rattle.std.proofs.Common.{◌≡◌, [], ◌∷◌, ◌++◌, map, length, Some, None, Ok, vec_items, sym, refl, ap, ◌∙◌, arith}
+use Rattle.std.proofs.Common.{[], ◌∷◌, ◌++◌, map, length, Some, None, Ok, vec_items, sym, refl, ap, ◌∙◌, arith}
 use lib.ListN.{length-map}
-use Rattle.std.specs.Option.{option_map}
 use Rattle.sheet.specs.declared.response.Success.TheVariants.{Done}
 use Rattle.sheet.specs.Answers.{rules_of, responses_of, log_after}
 use Rattle.sheet.specs.Endings.{fresh_of}
 use Rattle.sheet.specs.Faults.{told}
-use Rattle.sheet.specs.Stretches.{final_of, until_open, beside}
-use Rattle.filing.proofs.Appends.{append_more, append_all}
-use Rattle.sheet.proofs.Untils.{until_none, none_left, from_short}
+use Rattle.sheet.specs.Stretches.{until_open, beside}
+use Rattle.filing.proofs.Appends.{append_more}
+use Rattle.sheet.proofs.Untils.{until_none, from_short}
 use Rattle.sheet.proofs.Stretching.{before_responses, before_log, turn_responses, turn_log}
 use Rattle.sheet.proofs.play.play.Goals as goal
 
@@ -59,13 +58,3 @@ loop-stretch-preserved c =
         sym (turn_log more front back f b s rest r l k o) ∙ c.loop-stretch.invariant.1.3,
       ),
     )
-
-pub returns : goal.returns
-returns c =
-    let is = map told c.args.items.now in
-    let s = c.loop-stretch.invariant.1.0 in
-    let none : map told c.loop-stretch.rest.now ≡ [] = none_left (map told c.loop-stretch.rest.now) c.loop-stretch.invariant.0 c.in_default.ensures in
-    record {
-      responses = append_all (map told (vec_items c.loop-stretch.responses)) _ _ (ap (responses_of s) none) c.loop-stretch.invariant.1.2;
-      ending = c.loop-stretch.invariant.1.1 ∙ ap (option_map final_of) (ap (log_after s) (sym none) ∙ c.loop-stretch.invariant.1.3);
-    }
