@@ -36,6 +36,7 @@ pub(crate) enum Request {
     Call(Call<u32>),
 }
 
+// The verb that a word names.
 fn verb_in(bytes: &[u8]) -> Option<Verb>
     ensures { result ≡ verb_of bytes.now }
 {
@@ -50,6 +51,7 @@ fn verb_in(bytes: &[u8]) -> Option<Verb>
     }
 }
 
+// The kind that a word names.
 fn kind_in(bytes: &[u8]) -> Option<LogKind>
     ensures { result ≡ kind_of bytes.now }
 {
@@ -61,6 +63,7 @@ fn kind_in(bytes: &[u8]) -> Option<LogKind>
 }
 
 impl<'a> Words<'a> {
+    // The verb that a line begins with.
     fn verb(&mut self) -> Result<Verb, Fault>
         ensures answer { told result ≡ verb_at (to_come self.old) self.old.end }
         ensures passed { Passed self.old self.new }
@@ -70,6 +73,7 @@ impl<'a> Words<'a> {
         verb_in(word.bytes).ok_or(Fault::WrongWord(word.column))
     }
 
+    // The number that is wanted next.
     fn number(&mut self) -> Result<u32, Fault>
         ensures answer { told result ≡ number_at (to_come self.old) self.old.end }
         ensures passed { Passed self.old self.new }
@@ -93,6 +97,7 @@ impl<'a> Words<'a> {
         }
     }
 
+    // That no word follows.
     fn end(&mut self) -> Result<(), Fault>
         ensures { told result ≡ end_at (to_come self.old) }
     {
