@@ -68,8 +68,7 @@ impl<'a> Words<'a> {
         ensures answer { told result ≡ verb_at (to_come self.old) self.old.end }
         ensures passed { Passed self.old self.new }
     {
-        let end = self.end;
-        let word = self.next().ok_or(Fault::WrongWord(end))?;
+        let word = self.next().ok_or(Fault::WrongWord(self.end))?;
         verb_in(word.bytes).ok_or(Fault::WrongWord(word.column))
     }
 
@@ -78,8 +77,7 @@ impl<'a> Words<'a> {
         ensures answer { told result ≡ number_at (to_come self.old) self.old.end }
         ensures passed { Passed self.old self.new }
     {
-        let end = self.end;
-        let word = self.next().ok_or(Fault::WrongNumber(end))?;
+        let word = self.next().ok_or(Fault::WrongNumber(self.end))?;
         if word.bytes.is_empty() {
             return Err(Fault::WrongWord(word.column));
         }

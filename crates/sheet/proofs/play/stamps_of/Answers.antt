@@ -1,4 +1,4 @@
-use Rattle.std.proofs.Common.{◌≤◌, length, take, ap, ◌∙◌, arith}
+use Rattle.std.proofs.Common.{◌≡◌, ◌≤◌, ◌++◌, length, take, drop, ap, ◌∙◌, arith}
 use Rattle.std.proofs.lemmas.List.{take_at}
 use Rattle.certifier.specs.Logs.{log_state}
 use Rattle.certifier.specs.Refusals.{code_of}
@@ -16,7 +16,9 @@ returns g c =
     let log = c.args.log.now in
     let list = c.order.new.list in
     let fits : log.ranks.count ≤ length c.as_mut_slice.result.now = omega (arith, c.as_mut_slice.ensures.len, c.in_ok-stamps.ensures.len, log.ranks.day) in
-    c.truncate.ensures.items
-    ∙ ap (take c.from.result) (take_at list _ c.in_ok-stamps.stamps.len (omega (arith, c.as_mut_slice.ensures.len, c.order.auto.list)))
-    ∙ ap (λ k. take k list) c.from.ensures
-    ∙ order_stamps (log_state g.S.Store.state log) c.as_mut_slice.result.now list c.in-Ok.count c.in-Ok.ensures fits log.ranks.counted
+    let items = c.in_ok-stamps.stamps.items in
+    let whole : take c.in_ok-stamps.stamps.len (list ++ drop (length list) items) ≡ list =
+    take_at list (drop (length list) items) c.in_ok-stamps.stamps.len (omega (arith, c.as_mut_slice.ensures.len, c.order.auto.list)) in
+    let cut : c.truncate.new.self.items ≡ take c.from.result list = rw whole at c.truncate.ensures.items in
+    let count : take c.from.result list ≡ take c.in-Ok.count list = ap (λ k. take k list) c.from.ensures in
+    cut ∙ count ∙ order_stamps (log_state g.S.Store.state log) c.as_mut_slice.result.now list c.in-Ok.count c.in-Ok.ensures fits log.ranks.counted
