@@ -7,7 +7,7 @@ ghost use Rattle.dice.specs.Throws.{next_seed, upper_bits};
 use std::marker::Model;
 
 /// Dice that give the same row of throws from the same seed.
-#[derive(Drop)]
+#[derive(Clone, Copy)]
 pub struct Dice {
     seed: u32,
 }
@@ -17,6 +17,8 @@ impl Model for Dice {
     ghost Value = { ℕ };
 
     ghost view = { λ d. d.seed };
+
+    ghost inverse = { λ n. record { seed = n } };
 }
 
 impl Dice {
