@@ -1,8 +1,7 @@
 // The consoles at work, and what the planner counts beside the log.
-use crate::calls::{Accepted, call};
 use crate::job::{Job, TRAINS, Task};
 use anyhow::anyhow;
-use certifier::{Log, LogRefusal};
+use certifier::{Accepted, Log, LogRefusal};
 use dice::Dice;
 use std::alloc::{AllocError, Global};
 use std::collections::BTreeMap;
@@ -78,7 +77,7 @@ impl<S: Store<u32>> Day<S> {
 
     // Makes the task's call. A refused task begins again.
     fn work(&mut self, console: u32, task: Task) -> Result<Option<Task>, AllocError> {
-        match call(&mut self.log, task.call(console)) {
+        match self.log.call(task.call(console)) {
             Ok(accepted) => Ok(self.go_on(task, accepted)),
             Err(refusal) => {
                 self.refuse(refusal)?;

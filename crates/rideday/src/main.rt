@@ -6,7 +6,6 @@ use store::Store;
 use store::kind::{Newest, Snapshot};
 use versions::Versions;
 
-mod calls;
 mod day;
 mod job;
 mod report;
