@@ -33,11 +33,7 @@ impl<S: Store<u32>> Scene<Log<S, u32>> {
 
 // 5 at the 65th version. One that is noted already, and an own entry, are read all the same.
 fn reads<S: Store<u32>>(rt: HostRuntime) -> anyhow::Result<()> {
-    let size = Size {
-        records: 65,
-        places: 66,
-    };
-    let mut scene: Scene<Log<S, u32>> = Scene::open(rt, "noted versions", size)?;
+    let mut scene: Scene<Log<S, u32>> = Scene::open(rt, "noted versions", Size::new(65, 66))?;
     scene.play(&[Call::Begin(0)])?;
     let accepted = scene.accepted(63, |at| Call::Read(0, at));
     println!(rt; "log read 0 of 63 records: {accepted} accepted")?;
@@ -59,11 +55,7 @@ fn reads<S: Store<u32>>(rt: HostRuntime) -> anyhow::Result<()> {
 
 // 6 at the 17th record, which comes after 2 and before 7. A record that is written already is written again.
 fn writes<S: Store<u32>>(rt: HostRuntime) -> anyhow::Result<()> {
-    let size = Size {
-        records: 17,
-        places: 40,
-    };
-    let mut scene: Scene<Log<S, u32>> = Scene::open(rt, "written records", size)?;
+    let mut scene: Scene<Log<S, u32>> = Scene::open(rt, "written records", Size::new(17, 40))?;
     scene.play(&[Call::Begin(0), Call::Begin(1)])?;
     let accepted = scene.accepted(15, |at| Call::Write(0, at, at));
     println!(rt; "log write 0 to 15 records: {accepted} accepted")?;
@@ -88,11 +80,7 @@ fn writes<S: Store<u32>>(rt: HostRuntime) -> anyhow::Result<()> {
 // Each of two transactions overwrites what the other read: the second is answered 11, and is over. 13 at a version that
 // does not exist yet.
 fn verdicts<S: Store<u32>>(rt: HostRuntime) -> anyhow::Result<()> {
-    let size = Size {
-        records: 2,
-        places: 4,
-    };
-    let mut scene: Scene<Log<S, u32>> = Scene::open(rt, "marks and verdicts", size)?;
+    let mut scene: Scene<Log<S, u32>> = Scene::open(rt, "marks and verdicts", Size::new(2, 4))?;
     scene.marks(3)?;
     let crossing = [
         Call::Begin(0),
@@ -114,11 +102,7 @@ fn verdicts<S: Store<u32>>(rt: HostRuntime) -> anyhow::Result<()> {
 
 // 14 at a list that is one short. The first two commits share a low mark, so the later one comes first.
 fn orders<S: Store<u32>>(rt: HostRuntime) -> anyhow::Result<()> {
-    let size = Size {
-        records: 1,
-        places: 3,
-    };
-    let mut scene: Scene<Log<S, u32>> = Scene::open(rt, "the order", size)?;
+    let mut scene: Scene<Log<S, u32>> = Scene::open(rt, "the order", Size::new(1, 3))?;
     scene.order(&mut [])?;
     let calls = [
         Call::Begin(0),

@@ -10,6 +10,12 @@ pub(crate) struct Size {
     pub(crate) places: u32,
 }
 
+impl Size {
+    pub(crate) fn new(records: u32, places: u32) -> Size {
+        Size { records, places }
+    }
+}
+
 impl fmt::Display for Size {
     fn fmt<W: fmt::Write>(&self, f: &mut fmt::Formatter<W>) -> fmt::Result {
         let Size { records, places } = self;

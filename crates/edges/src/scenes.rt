@@ -36,11 +36,12 @@ impl<T: Ask> Scene<T> {
     }
 
     /// Makes the call of each number below `count`, and answers how many of them were accepted.
-    pub(crate) fn accepted<F: Fn(u32) -> Call<u32>>(&mut self, count: u32, call: F) -> usize
-        requires { F.IsAlwaysCallable call }
+    pub(crate) fn accepted<F: FnMut(u32) -> Call<u32>>(&mut self, count: u32, call: F) -> usize
+        requires { (f : _) (at : _) → F.pre f at }
     {
         (0..count)
-            .filter(|number| self.table.ask(call(*number)).is_ok())
+            .map(call)
+            .filter(|call| self.table.ask(*call).is_ok())
             .count()
     }
 
@@ -76,17 +77,18 @@ fn openings<T: Ask>(rt: HostRuntime) -> io::Result<()> {
     let name = T::NAME;
     println!(rt; "# {name}, opening")?;
     let sizes = [
-        (0, 4),
-        (1, 0),
-        (1, 1),
-        (5, 4),
-        (1, 2048),
-        (1, 2049),
-        (256, 2048),
-        (257, 300),
+        Size::new(0, 4),
+        Size::new(1, 0),
+        Size::new(1, 1),
+        Size::new(5, 4),
+        Size::new(1, 2048),
+        Size::new(1, 2049),
+        Size::new(256, 2048),
+        Size::new(257, 300),
     ];
-    for (records, places) in sizes {
-        let opened = T::fresh(rt.alloc(), Size { records, places });
+    for size in sizes {
+        let Size { records, places } = size;
+        let opened = T::fresh(rt.alloc(), size);
         let answered = Answered::from(opened.map(|table| table.records()));
         println!(rt; "{name} open {records} {places}: {answered}")?;
     }
@@ -95,10 +97,6 @@ fn openings<T: Ask>(rt: HostRuntime) -> io::Result<()> {
 
 // 1 above console 15, 4 where a console is open, 3 where it is shut.
 fn consoles<T: Ask>(rt: HostRuntime) -> anyhow::Result<()> {
-    let size = Size {
-        records: 2,
-        places: 4,
-    };
     let calls = [
         Call::Begin(15),
         Call::Begin(16),
@@ -117,15 +115,11 @@ fn consoles<T: Ask>(rt: HostRuntime) -> anyhow::Result<()> {
         Call::Drop(15),
         Call::Drop(15),
     ];
-    Scene::<T>::whole(rt, "consoles", size, &calls)
+    Scene::<T>::whole(rt, "consoles", Size::new(2, 4), &calls)
 }
 
 // 2 past the last record, which comes after 1 and 3. A console reads its own entry back.
 fn records<T: Ask>(rt: HostRuntime) -> anyhow::Result<()> {
-    let size = Size {
-        records: 2,
-        places: 4,
-    };
     let calls = [
         Call::Begin(0),
         Call::Read(0, 1),
@@ -143,15 +137,11 @@ fn records<T: Ask>(rt: HostRuntime) -> anyhow::Result<()> {
         Call::Begin(0),
         Call::Read(0, 1),
     ];
-    Scene::<T>::whole(rt, "records and own entries", size, &calls)
+    Scene::<T>::whole(rt, "records and own entries", Size::new(2, 4), &calls)
 }
 
 // 7 at another console's record, until that console drops or commits.
 fn holds<T: Ask>(rt: HostRuntime) -> anyhow::Result<()> {
-    let size = Size {
-        records: 2,
-        places: 8,
-    };
     let calls = [
         Call::Begin(0),
         Call::Begin(1),
@@ -169,15 +159,16 @@ fn holds<T: Ask>(rt: HostRuntime) -> anyhow::Result<()> {
         Call::Read(0, 1),
         Call::Commit(0),
     ];
-    Scene::<T>::whole(rt, "records held by another console", size, &calls)
+    Scene::<T>::whole(
+        rt,
+        "records held by another console",
+        Size::new(2, 8),
+        &calls,
+    )
 }
 
 // 9 past the last place, which comes after 7. A second write to a record takes no place, and a drop gives places back.
 fn places<T: Ask>(rt: HostRuntime) -> anyhow::Result<()> {
-    let size = Size {
-        records: 3,
-        places: 5,
-    };
     let calls = [
         Call::Begin(0),
         Call::Begin(1),
@@ -198,15 +189,11 @@ fn places<T: Ask>(rt: HostRuntime) -> anyhow::Result<()> {
         Call::Write(1, 1, 9),
         Call::Commit(1),
     ];
-    Scene::<T>::whole(rt, "a full table", size, &calls)
+    Scene::<T>::whole(rt, "a full table", Size::new(3, 5), &calls)
 }
 
 // 8 where a later version stands than the console began with, which comes after 7 and before 9.
 pub(crate) fn stale<T: Ask>(rt: HostRuntime) -> anyhow::Result<()> {
-    let size = Size {
-        records: 3,
-        places: 7,
-    };
     let calls = [
         Call::Begin(0),
         Call::Begin(1),
@@ -226,16 +213,13 @@ pub(crate) fn stale<T: Ask>(rt: HostRuntime) -> anyhow::Result<()> {
         Call::Commit(1),
         Call::Commit(0),
     ];
-    Scene::<T>::whole(rt, "stale writes", size, &calls)
+    Scene::<T>::whole(rt, "stale writes", Size::new(3, 7), &calls)
 }
 
 // 10 at the 4,001st commit, whose transaction stays open.
 fn day<T: Ask>(rt: HostRuntime) -> anyhow::Result<()> {
     let name = T::NAME;
-    let size = Size {
-        records: 1,
-        places: 2,
-    };
+    let size = Size::new(1, 2);
     println!(rt; "# {name}, a full day: {size}, after 3999 empty commits")?;
     let mut scene: Scene<T> = Scene::fresh(rt, size)?;
     for _commit in 0..3999u32 {

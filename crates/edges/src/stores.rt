@@ -6,11 +6,7 @@ use certifier::Call;
 
 /// Seventeen records written in one transaction.
 pub(crate) fn show<T: Ask>(rt: HostRuntime) -> anyhow::Result<()> {
-    let size = Size {
-        records: 17,
-        places: 34,
-    };
-    let mut scene: Scene<T> = Scene::open(rt, "many writes", size)?;
+    let mut scene: Scene<T> = Scene::open(rt, "many writes", Size::new(17, 34))?;
     scene.play(&[Call::Begin(0)])?;
     let accepted = scene.accepted(17, |at| Call::Write(0, at, at));
     println!(rt; "store write 0 to 17 records: {accepted} accepted")?;
