@@ -84,7 +84,7 @@ impl<E: Copy> Sessions<E> {
         let session = &mut self.sessions[console.number as usize];
         self.count -= session.pending.len();
         session.began = None;
-        session.pending.clear();
+        session.pending.truncate(0);
     }
 
     // Replaces the entry that is pending at `hold`.
