@@ -9,7 +9,7 @@ use Rattle.versions.specs.declared.row.Row.{Row}
 use Rattle.versions.specs.Places.{depth_of, link_of, record_of, version_of, place_at, depth, link, walk, chain_from, chains_from, Down, Live, Mine, Headed, Owned, Numbered, Inside, Vacant, Apart, Counted}
 use Rattle.versions.specs.declared.table.Table.{Table}
 use Rattle.versions.specs.Tables.{chains_of, next_of}
-use Rattle.store.proofs.Lists.{map_same, some_is, versions_set}
+use Rattle.store.proofs.Lists.{map_same, versions_set}
 
 module _ {E : Type 0} where
   -- a place that is used lies inside
@@ -125,14 +125,14 @@ module _ {E : Type 0} where
         chains_before = map_same (chain_from a.first qs) (chain_from a.first ps) ns (λ k m.
             (let j = get_or ns k 0 in
             let u = a.headed k 0 m in
-            ap (λ n. walk a.first qs n (Some j)) (ap depth_of (apart ps i new free j u)) ∙ walk_set ps i new free a.first a.live (depth ps j) (Some j) (λ o s. let z = ap (depth ps) (some_is j o s) in omega arith)))
+            ap (λ n. walk a.first qs n (Some j)) (ap depth_of (apart ps i new free j u)) ∙ walk_set ps i new free a.first a.live (depth ps j) (Some j) (λ o s. let z : depth ps j ≡ depth ps o = cc in omega arith)))
 
         chain_new : chain_from a.first qs i ≡ chain_from a.first ps h ++ v ∷ []
         chain_new =
             let n = a.numbered h in
             let u = head_used in
-            let old = walk_set ps i new free a.first a.live v.number (Some h) (λ o s. let z = ap (depth ps) (some_is h o s) in omega arith) in
-            let spare = walk_spare a.first ps a.down a.live v.number (depth ps h) (Some h) (λ o s. let z = ap (depth ps) (some_is h o s) in (omega arith, omega arith, omega arith)) in
+            let old = walk_set ps i new free a.first a.live v.number (Some h) (λ o s. let z : depth ps h ≡ depth ps o = cc in omega arith) in
+            let spare = walk_spare a.first ps a.down a.live v.number (depth ps h) (Some h) (λ o s. let z : depth ps h ≡ depth ps o = cc in (omega arith, omega arith, omega arith)) in
             chain_used a.first qs i (record { version = v; owner = r; older = Some h }) (sym at_new) ∙ ap (λ w. w ++ v ∷ []) (old ∙ spare)
 
         pub table_chains : chains_from a.first qs ms ≡ set (chains_of a) r (get_or (chains_of a) r [] ++ v ∷ [])
@@ -151,7 +151,8 @@ module _ {E : Type 0} where
         link_new j m e = elim (cases_eq j i) [
           | inl here ↦
               (let at : place_at qs j ≡ new = ap (place_at qs) here ∙ at_new in
-              let s : h ≡ m = some_is h m (sym (ap link_of at) ∙ e) in
+              let t = ap link_of at in
+              let s : h ≡ m = cc in
               let d = ap depth_of at in
               let b = ap (depth ps) s in
               let n = a.numbered h in
