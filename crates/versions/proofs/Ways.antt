@@ -8,7 +8,7 @@ use Rattle.store.specs.Meaning.{versions_in}
 use Rattle.versions.specs.declared.row.Row.{Row}
 use Rattle.versions.specs.Places.{depth_of, link_of, record_of, version_of, place_at, depth, link, walk, chain_from, chains_from, Down, Live, Mine, Headed, Owned, Numbered, Inside, Vacant, Apart, Counted}
 use Rattle.versions.specs.declared.table.Table.{Table}
-use Rattle.versions.specs.Tables.{chains_of, next_of}
+use Rattle.versions.specs.Tables.{chains_of, next_of, Grows}
 use Rattle.store.proofs.Lists.{map_same, versions_set}
 
 module _ {E : Type 0} where
@@ -135,17 +135,14 @@ module _ {E : Type 0} where
             let spare = walk_spare a.first ps a.down a.live v.number (depth ps h) (Some h) (λ o s. let z : depth ps h ≡ depth ps o = cc in (omega arith, omega arith, omega arith)) in
             chain_used a.first qs i (record { version = v; owner = r; older = Some h }) (sym at_new) ∙ ap (λ w. w ++ v ∷ []) (old ∙ spare)
 
-        pub table_chains : chains_from a.first qs ms ≡ set (chains_of a) r (get_or (chains_of a) r [] ++ v ∷ [])
+        table_chains : chains_from a.first qs ms ≡ set (chains_of a) r (get_or (chains_of a) r [] ++ v ∷ [])
         table_chains =
             map-set (chain_from a.first qs) ns r i
             ∙ ap (λ cs. set cs r (chain_from a.first qs i)) chains_before
             ∙ ap (set (chains_of a) r) (chain_new ∙ ap (λ c. c ++ v ∷ []) (sym head_chain))
 
-        pub table_next : versions_in (chains_from a.first qs ms) ≡ next_of a + 1
+        table_next : versions_in (chains_from a.first qs ms) ≡ next_of a + 1
         table_next = ap versions_in table_chains ∙ versions_set (chains_of a) r v l
-
-        pub table_size : length (chains_from a.first qs ms) ≡ length (chains_of a)
-        table_size = ap length table_chains ∙ length-set (chains_of a) r _
 
         link_new : (j m : ℕ) → link qs j ≡ Some m → (0 < depth ps m) × (depth ps m < depth qs j) × (record_of (place_at ps m) ≡ record_of (place_at qs j))
         link_new j m e = elim (cases_eq j i) [
@@ -213,4 +210,18 @@ module _ {E : Type 0} where
               vacant = vacant_push;
               apart = λ j k d m o e. a.apart j k d m (omega arith) (free_at j d (omega arith) ∙ e ∙ sym (free_at k d o));
               counted = (let more = table_next in let c = a.counted in omega arith);
+            }
+
+        -- the table b that the places and the newest versions make
+        pub table_grown : (b : Table E) → b.first ≡ a.first → vec_items b.places ≡ qs → vec_items b.newest ≡ ms
+            → Grows a b (set (chains_of a) r (get_or (chains_of a) r [] ++ record { number = next_of a; stamp = v.stamp; entry = v.entry } ∷ [])) 1
+        table_grown b first places newest =
+            let same : chains_of b ≡ chains_from a.first qs ms = ap (λ e. chains_from e (vec_items b.places) (vec_items b.newest)) first ∙ ap (λ x. chains_from a.first x (vec_items b.newest)) places ∙ ap (chains_from a.first qs) newest in
+            let as' = ap (λ n. set (chains_of a) r (get_or (chains_of a) r [] ++ record { number = n; stamp = v.stamp; entry = v.entry } ∷ [])) number in
+            record {
+              chains = same ∙ table_chains ∙ as';
+              next = ap versions_in same ∙ table_next;
+              size = ap length (same ∙ table_chains) ∙ length-set (chains_of a) r _;
+              room = ap length places ∙ length-set ps i new;
+              first = first;
             }
