@@ -24,19 +24,7 @@ invariant_of-result g c =
     let kept = first_kept e n m (omega arith) (vec_items c.in_ok-places.places) (vec_items c.in_ok-newest.newest) (vec_items c.extend.new.self) places newest (free.0 ∙ ap (λ xs. xs ++ range_with_len n (m - n)) none.items) in
     let long = ap length places ∙ length-map-range_with_len (first_place e n) 0 m in
     let heads = ap length newest ∙ length-range_with_len 0 n in
-    record {
-      fits = (omega arith, omega arith, omega (arith, free.2, none.capacity));
-      down = kept.down;
-      live = kept.live;
-      mine = kept.mine;
-      headed = kept.headed;
-      owned = kept.owned;
-      numbered = kept.numbered;
-      inside = kept.inside;
-      vacant = kept.vacant;
-      apart = kept.apart;
-      counted = kept.counted;
-    }
+    search rules
 
 pub returns : goal.returns
 returns g c =
