@@ -7,7 +7,7 @@ use Rattle.store.specs.declared.Pending.{Pending}
 use Rattle.versions.specs.declared.session.Session.{Session}
 use Rattle.versions.specs.declared.session.Hold.{Hold}
 use Rattle.versions.specs.declared.sessions.Sessions.{Sessions}
-use Rattle.store.specs.Meaning.{Console, holds, own_at, replaced, wrote, pending_list, any_holds, pending_in}
+use Rattle.store.specs.Meaning.{Console, holds, own_at, replaced, wrote, any_holds, pending_in}
 use Rattle.store.specs.Consoles.{ats, pend_at, records_at}
 use Rattle.versions.specs.Session.{place_held, console_with, console_of, consoles_from, Reserved, spare, Empty, Listed, Held, Placed}
 use Rattle.versions.specs.Sessions.{consoles_of}

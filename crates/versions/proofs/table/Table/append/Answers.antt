@@ -1,9 +1,8 @@
-use Rattle.std.proofs.Common.{◌≡◌, ℕ, ◌<◌, List, [], ◌∷◌, ◌++◌, ◌+◌, length, get_or, drop, set, sym, ap, ◌∙◌, rules, arith}
-use Rattle.std.proofs.lemmas.List.{length-map, get_or-map, drop_more, drop_all}
+use Rattle.std.proofs.Common.{◌≡◌, ℕ, ◌<◌, List, length, get_or, ap, arith}
+use Rattle.std.proofs.lemmas.List.{length-map, get_or-map}
 use Rattle.store.specs.declared.Pending.{Pending}
 use Rattle.versions.specs.Session.{Within}
-use Rattle.store.specs.Meaning.{appended}
-use Rattle.versions.specs.Tables.{chains_of, next_of}
+use Rattle.versions.specs.Tables.{chains_of}
 use Rattle.versions.proofs.table.Table.append.Goals as goal
 
 item_within : {E : Type 0} (n : ℕ) (ps : List (Pending E)) (i : ℕ) (p : Pending E) → Within n ps → i < length ps → p ≡ get_or ps i p → p.at < n
@@ -14,31 +13,7 @@ item_within {E} n ps i p within l is =
     let low = within i 0 (omega arith) in
     omega arith
 
-pub push-requires : goal.push-requires
-push-requires g c =
-    let grown = c.loop-p.invariant.0 in
+pub push-requires-clause-within : goal.push-requires-clause-within
+push-requires-clause-within g c =
     let low = item_within (length (chains_of c.args.self.now)) c.args.pending.now c.loop-p.p-index c.p-item.result c.requires.within c.loop-p-test.true c.p-item.is in
-    let room = c.requires.room in
-    search rules
-
-pub loop-p-preserved : goal.loop-p-preserved
-loop-p-preserved g c =
-    let ps = c.args.pending.now in
-    let i = c.loop-p.p-index in
-    let cs = chains_of c.loop-p.self in
-    let n = next_of c.loop-p.self in
-    let p = c.p-item.result in
-    let step : drop i ps ≡ p ∷ drop (i + 1) ps = drop_more ps i p c.loop-p-test.true ∙ ap (λ q. q ∷ drop (i + 1) ps) (sym c.p-item.is) in
-    let grown = c.loop-p.invariant.0 in
-    let pushed = c.push.ensures in
-    let rest : appended (chains_of c.push.new.self) c.args.stamp (next_of c.push.new.self) (drop (i + 1) ps) ≡ appended cs c.args.stamp n (drop i ps) =
-    ap (λ x. appended x c.args.stamp (next_of c.push.new.self) (drop (i + 1) ps)) pushed.chains
-    ∙ ap (λ m. appended (set cs p.at (get_or cs p.at [] ++ record { number = n; stamp = c.args.stamp; entry = p.entry } ∷ [])) c.args.stamp m (drop (i + 1) ps)) pushed.next
-    ∙ sym (ap (appended cs c.args.stamp n) step) in
-    search rules
-
-pub returns : goal.returns
-returns g c =
-    let grown = c.loop-p.invariant.0 in
-    let none = ap (appended (chains_of c.loop-p.self) c.args.stamp (next_of c.loop-p.self)) (drop_all c.loop-p.p-index c.args.pending.now c.loop-p-test.false) in
-    search rules
+    omega (arith, c.loop-p.invariant.0.size)
