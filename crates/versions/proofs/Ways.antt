@@ -1,8 +1,8 @@
 -- The chains that the places stand for, when a free place is taken.
 use Rattle.std.proofs.Common.{◌≡◌, ℕ, zero, suc, ◌+◌, ◌<◌, ◌≤◌, ◌≢◌, List, [], ◌∷◌, ◌++◌, length, get_or, set, Some, None, vec_items, Option, sym, refl, ap, ◌∙◌, inl, inr, arith}
-use Rattle.std.proofs.lemmas.List.{get_or-set_same, get_or-set_other, length-set, length-map, get_or-map, map-set, length_push, get_or_push, get_or_append_left, get_or_past, get_or_read}
+use Rattle.std.proofs.lemmas.List.{get_or-set_same, get_or-set_other, length-set, length-map, get_or-map, map-set, length_push, get_or_push, get_or_append_left, get_or_read}
 use Rattle.std.proofs.lemmas.List.Elements.{All-set, All-weaker}
-use Rattle.std.proofs.lemmas.Bool.{cases_eq, cases_lt}
+use Rattle.std.proofs.lemmas.Bool.{cases_eq}
 use Rattle.store.specs.declared.Version.{Version}
 use Rattle.store.specs.Meaning.{versions_in}
 use Rattle.versions.specs.declared.row.Row.{Row}
@@ -12,13 +12,6 @@ use Rattle.versions.specs.Tables.{chains_of, next_of, Grows}
 use Rattle.store.proofs.Lists.{map_same, versions_set}
 
 module _ {E : Type 0} where
-  -- a place that is used lies inside
-  pub used_inside : (ps : List (Option (Row E))) (i : ℕ) → 0 < depth ps i → i < length ps
-  used_inside ps i h = elim (cases_lt i (length ps)) [
-    | inl l ↦ l
-    | inr past ↦ (let z : depth ps i ≡ 0 = ap depth_of (get_or_past ps i None past) in absurd (omega arith))
-  ]
-
   -- steps to spare change nothing
   pub walk_spare : (e : E) (ps : List (Option (Row E))) → Down ps → Live ps → (m n : ℕ) (o : Option ℕ) → ((j : ℕ) → o ≡ Some j → (0 < depth ps j) × (depth ps j ≤ m) × (depth ps j ≤ n)) → walk e ps m o ≡ walk e ps n o
   walk_spare e ps down live zero zero o h = refl
