@@ -9,6 +9,7 @@ use crate::table::Table;
 use store::kind::Kind;
 use store::{Pending, Version};
 
+// Kept: `at < length (chains_of ..)` is asked by three methods, since the bound is a number of the value and no type states it.
 impl<E: Copy> Table<E> {
     // How many records there are.
     pub(crate) fn size(&self) -> u32
