@@ -32,7 +32,7 @@ impl<E: Copy> Table<E> {
         self.places.len() - self.free.len()
     }
 
-    // The version at a place that has one.
+    // The row of a place that has a version.
     fn used(&self, place: u16) -> &Row<E>
         requires { 0 < depth (places_of self.now) place }
         ensures { Some result.now ≡ place_at (places_of self.now) place }

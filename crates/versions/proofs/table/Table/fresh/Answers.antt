@@ -5,8 +5,8 @@ use Rattle.std.proofs.lemmas.Iterator.{YieldsList-from_range, YieldsList-from_ma
 use Rattle.std.proofs.lemmas.Iterator.Adapters.{items_from_extend}
 use Rattle.store.specs.Meaning.{versions_in}
 use Rattle.store.proofs.Lists.{firsts_many}
-use Rattle.versions.specs.Places.{chains_from, first_place}
-use Rattle.versions.proofs.Starts.{first_places, first_chains, first_kept}
+use Rattle.versions.specs.Places.{chains_from}
+use Rattle.versions.proofs.Starts.{first_place, first_places, first_chains, first_kept}
 use Rattle.versions.proofs.table.Table.fresh.Goals as goal
 
 pub invariant_of-result : goal.invariant_of-result
