@@ -48,37 +48,37 @@ module _ {E : Type 0} where
   records_other : (cs : List (Option (Console E))) (k i : ℕ) (c : Option (Console E)) → i ≢ k → records_at (set cs k c) i ≡ records_at cs i
   records_other cs k i c n = ap (λ x. ats (pending_list x)) (get_or-set_other cs k i c None n)
 
-  pub backs_set : (hs : List Hold) (cs : List (Option (Console E))) (k : ℕ) (c : Option (Console E)) → k < length cs → Backs hs cs → Back hs k (ats (pending_list c)) → Backs hs (set cs k c)
-  backs_set hs cs k c l all this i =
+  pub backs_set : (hs : List Hold) (cs : List (Option (Console E))) (k : ℕ) (c : Option (Console E)) → k < length cs → ((i : ℕ) → Back hs i (records_at cs i)) → Back hs k (ats (pending_list c)) → Backs hs (set cs k c)
+  backs_set hs cs k c l others this i =
       elim (cases_eq i k) [
         | inl here ↦ (let P : List ℕ → Type 0 = λ rs. Back hs i rs in
             let v : records_at (set cs k c) i ≡ ats (pending_list c) = rw here (records_same cs k c l) in
             let t : Back hs i (ats (pending_list c)) = rw here this in subst P (sym v) t)
-        | inr there ↦ (let P : List ℕ → Type 0 = λ rs. Back hs i rs in subst P (sym (records_other cs k i c there)) (all i))
+        | inr there ↦ (let P : List ℕ → Type 0 = λ rs. Back hs i rs in subst P (sym (records_other cs k i c there)) (others i))
       ]
 
-  -- a new entry at a record that had none
-  pub backs_add : (hs : List Hold) (cs : List (Option (Console E))) (r : ℕ) (h : Hold) (c : Option (Console E)) → h.console.number < length cs → r < length hs → Backs hs cs → any_holds cs r ≡ false
-      → h.place ≡ length (records_at cs h.console.number) → ats (pending_list c) ≡ records_at cs h.console.number ++ r ∷ [] → Backs (set hs r h) (set cs h.console.number c)
-  backs_add hs cs r h c l within all none long q =
-      let k = h.console.number in
-      let size = length-set hs r h in
-      let apart : (i : ℕ) → Back (set hs r h) i (records_at cs i) = λ i j m.
-      (let b = all i j m in
-      let ne : get_or (records_at cs i) j 0 ≢ r = (λ e. both_ways _ (none_any cs r i none) (holds_yes (pend_at cs i) r j m e)) in
-      ((let x = b.0 in omega arith), held_other (λ x. x.console.number) hs r h _ ne ∙ b.1, held_other (λ x. x.place) hs r h _ ne ∙ b.2)) in
-      let at_end : Back (set hs r h) k (records_at cs k ++ r ∷ []) = λ j m.
-      (let more = length_push (records_at cs k) r in
-      elim (cases_eq j h.place) [
-        | inl here ↦
-            (let v : get_or (records_at cs k ++ r ∷ []) j 0 ≡ r = get_or_push (records_at cs k) r 0 j (omega arith) in
-            (omega arith, ap (console_held (set hs r h)) v ∙ held_same (λ x. x.console.number) hs r h within, ap (place_held (set hs r h)) v ∙ held_same (λ x. x.place) hs r h within ∙ sym here))
-        | inr there ↦
-            (let below : j < length (records_at cs k) = omega arith in
-            let v : get_or (records_at cs k ++ r ∷ []) j 0 ≡ get_or (records_at cs k) j 0 = get_or_append_left (records_at cs k) (r ∷ []) 0 j below in
-            rw v (apart k j below))
-      ]) in
-      backs_set (set hs r h) cs k c l apart (let P : List ℕ → Type 0 = λ rs. Back (set hs r h) k rs in subst P (sym q) at_end)
+  -- a hold is written for record r, which had no entry: what others lead back to, and the console with the new entry at its end
+  module _ (hs : List Hold) (cs : List (Option (Console E))) (r : ℕ) (h : Hold) (within : r < length hs) (all : Backs hs cs) (none : any_holds cs r ≡ false) where
+    pub back_old : (i : ℕ) → Back (set hs r h) i (records_at cs i)
+    back_old i j m =
+        let size = length-set hs r h in
+        let b = all i j m in
+        let ne : get_or (records_at cs i) j 0 ≢ r = (λ e. both_ways _ (none_any cs r i none) (holds_yes (pend_at cs i) r j m e)) in
+        ((let x = b.0 in omega arith), held_other (λ x. x.console.number) hs r h _ ne ∙ b.1, held_other (λ x. x.place) hs r h _ ne ∙ b.2)
+
+    pub back_new : (k : ℕ) → h.console.number ≡ k → h.place ≡ length (records_at cs k) → Back (set hs r h) k (records_at cs k ++ r ∷ [])
+    back_new k console place j m =
+        let size = length-set hs r h in
+        let more = length_push (records_at cs k) r in
+        elim (cases_eq j h.place) [
+          | inl here ↦
+              (let v : get_or (records_at cs k ++ r ∷ []) j 0 ≡ r = get_or_push (records_at cs k) r 0 j (omega arith) in
+              (omega arith, ap (console_held (set hs r h)) v ∙ held_same (λ x. x.console.number) hs r h within ∙ console, ap (place_held (set hs r h)) v ∙ held_same (λ x. x.place) hs r h within ∙ sym here))
+          | inr there ↦
+              (let below : j < length (records_at cs k) = omega arith in
+              let v : get_or (records_at cs k ++ r ∷ []) j 0 ≡ get_or (records_at cs k) j 0 = get_or_append_left (records_at cs k) (r ∷ []) 0 j below in
+              rw v (back_old k j below))
+        ]
 
   -- a hold that leads to no entry of record r: there is none
   pub found_none : (hs : List Hold) (cs : List (Option (Console E))) (r : ℕ) (h : Hold) → h ≡ get_or hs r h → r < length hs → Backs hs cs

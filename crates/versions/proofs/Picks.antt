@@ -8,7 +8,6 @@ use Rattle.store.specs.Meaning.{Rules, picked, stamps_of}
 use Rattle.versions.specs.Places.{depth_of, link_of, place_at, depth, walk, chain_from, Down, Live}
 use Rattle.store.specs.Kinds.{last_passing, Tested}
 use Rattle.store.specs.Lasts.{last_push, last_inside}
-use Rattle.store.proofs.Lists.{some_is}
 use Rattle.versions.proofs.Ways.{walk_spare, chain_used, walk_none, walk_some}
 
 module _ {E : Type 0} where
@@ -64,7 +63,7 @@ module _ {E : Type 0} where
         → picked k d (chain_to e ps row) began ≡ picked k d (chain_to e ps next) began
     pick_older down live linked j no' older next is =
         let up = linked j older in
-        let spare = walk_spare e ps down live row.version.number (depth ps j) (Some j) (λ m q. let z = ap (depth ps) (some_is j m q) in (omega arith, omega arith, omega arith)) in
+        let spare = walk_spare e ps down live row.version.number (depth ps j) (Some j) (λ m q. let z : depth ps j ≡ depth ps m = cc in (omega arith, omega arith, omega arith)) in
         let front : walk e ps row.version.number row.older ≡ chain_from e ps j = ap (walk e ps row.version.number) older ∙ spare in
         let some : 0 < length (walk e ps row.version.number row.older) = rw front (walk_some e ps (depth ps j) j up.0) in
         pick_front k test tested d (walk e ps row.version.number row.older) row.version began no' some

@@ -1,14 +1,15 @@
 -- A store as it is opened: its table all at once, its consoles one by one.
-use Rattle.std.proofs.Common.{◌≡◌, ℕ, zero, suc, ◌+◌, ◌-◌, ◌<◌, ◌≤◌, List, [], ◌∷◌, ◌++◌, map, length, get_or, Some, None, Option, vec_items, vec_capacity, sym, refl, ap, ◌∙◌, inl, inr, add-one, arith}
-use Rattle.std.proofs.lemmas.Bool.{cases_lt, lt-ltb, le-ltb, cond-true, cond-false}
+use Rattle.std.proofs.Common.{◌≡◌, ℕ, nat_lt, zero, suc, ◌+◌, ◌-◌, ◌<◌, ◌≤◌, List, [], ◌∷◌, ◌++◌, map, length, get_or, Some, None, Option, vec_items, vec_capacity, sym, refl, ap, ◌∙◌, inl, inr, add-one, arith}
+use Rattle.std.proofs.lemmas.Bool.{cases_lt, lt-ltb, le-ltb}
 use Rattle.std.proofs.lemmas.List.{length_push, map_push, get_or_past}
 use Rattle.std.proofs.lemmas.List.Elements.{All-push}
 use Rattle.std.proofs.lemmas.List.FromFn.{length-range_with_len, get_or-range_with_len, length-map-range_with_len, get_or-map-range_with_len}
 use Rattle.std.specs.List.{range_with_len}
+use Rattle.std.specs.Bool.{then_some}
 use Rattle.store.specs.Meaning.{versions_in, firsts}
 use Rattle.store.proofs.Lists.{firsts_many}
 use Rattle.versions.specs.declared.row.Row.{Row}
-use Rattle.versions.specs.Places.{depth_of, link_of, record_of, place_at, link, chain_from, chains_from, first_place}
+use Rattle.versions.specs.Places.{depth_of, link_of, record_of, place_at, link, chain_from, chains_from}
 use Rattle.versions.proofs.Ways.{TableKept, walk_none, chain_used}
 use Rattle.versions.specs.declared.session.Session.{Session}
 use Rattle.store.specs.Meaning.{shut_all, pending_in, pending_list}
@@ -53,6 +54,13 @@ module _ {E : Type 0} where
   pub shut_none : (room : ℕ) (sessions : List (Session E)) (n : ℕ) → Shutting room sessions n → pending_in (consoles_from sessions) ≡ 0
   shut_none room sessions n s = ap pending_in s.consoles ∙ shut_total E n
 
+-- what a place of a fresh table holds: the first version of the record of its number, if there is one
+abbrev pub first_row : {E : Type 0} → E → ℕ → Row E
+first_row e i = record { version = record { number = i; stamp = 0; entry = e }; owner = i; older = None }
+
+abbrev pub first_place : {E : Type 0} → E → ℕ → ℕ → Option (Row E)
+first_place e size i = then_some (nat_lt i size) (first_row e i)
+
 -- the places of a fresh table of `size` records and `room` places
 abbrev pub first_places : {E : Type 0} → E → ℕ → ℕ → List (Option (Row E))
 first_places e size room = map (first_place e size) (range_with_len 0 room)
@@ -61,16 +69,13 @@ module _ {E : Type 0} (e : E) (size room : ℕ) (fits : size ≤ room) where
   abbrev places : List (Option (Row E))
   places = first_places e size room
 
-  abbrev first_row : ℕ → Row E
-  first_row i = record { version = record { number = i; stamp = 0; entry = e }; owner = i; older = None }
-
-  at_first : (i : ℕ) → i < size → place_at places i ≡ Some (first_row i)
-  at_first i l = get_or-map-range_with_len (first_place e size) 0 room i i None (omega arith) (omega arith) ∙ cond-true _ _ _ (lt-ltb _ _ l)
+  at_first : (i : ℕ) → i < size → place_at places i ≡ Some (first_row e i)
+  at_first i l = get_or-map-range_with_len (first_place e size) 0 room i i None (omega arith) (omega arith) ∙ ap (λ b. then_some b (first_row e i)) (lt-ltb _ _ l)
 
   at_free : (i : ℕ) → size ≤ i → place_at places i ≡ None
   at_free i l =
       elim (cases_lt i room) [
-        | inl within ↦ get_or-map-range_with_len (first_place e size) 0 room i i None within (omega arith) ∙ cond-false _ _ _ (le-ltb _ _ l)
+        | inl within ↦ get_or-map-range_with_len (first_place e size) 0 room i i None within (omega arith) ∙ ap (λ b. then_some b (first_row e i)) (le-ltb _ _ l)
         | inr past ↦ get_or_past places i None (let n = length-map-range_with_len (first_place e size) 0 room in omega arith)
       ]
 
@@ -81,8 +86,8 @@ module _ {E : Type 0} (e : E) (size room : ℕ) (fits : size ≤ room) where
         | inr free ↦ (let z : ◌≡◌ {A = Option ℕ} None (Some j) = sym (ap link_of (at_free i free)) ∙ q in cc)
       ]
 
-  first_chain : (i : ℕ) → i < size → chain_from e places i ≡ (first_row i).version ∷ []
-  first_chain i l = chain_used e places i (first_row i) (sym (at_first i l)) ∙ ap (λ w. w ++ (first_row i).version ∷ []) (walk_none e places i)
+  first_chain : (i : ℕ) → i < size → chain_from e places i ≡ (first_row e i).version ∷ []
+  first_chain i l = chain_used e places i (first_row e i) (sym (at_first i l)) ∙ ap (λ w. w ++ (first_row e i).version ∷ []) (walk_none e places i)
 
   chains_upto : (m n : ℕ) → m + n ≤ size → chains_from e places (range_with_len m n) ≡ firsts e m n
   chains_upto m zero l = refl

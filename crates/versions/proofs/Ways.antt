@@ -1,24 +1,17 @@
 -- The chains that the places stand for, when a free place is taken.
 use Rattle.std.proofs.Common.{◌≡◌, ℕ, zero, suc, ◌+◌, ◌<◌, ◌≤◌, ◌≢◌, List, [], ◌∷◌, ◌++◌, length, get_or, set, Some, None, vec_items, Option, sym, refl, ap, ◌∙◌, inl, inr, arith}
-use Rattle.std.proofs.lemmas.List.{get_or-set_same, get_or-set_other, length-set, length-map, get_or-map, map-set, length_push, get_or_push, get_or_append_left, get_or_past, get_or_read}
+use Rattle.std.proofs.lemmas.List.{get_or-set_same, get_or-set_other, length-set, length-map, get_or-map, map-set, length_push, get_or_push, get_or_append_left, get_or_read}
 use Rattle.std.proofs.lemmas.List.Elements.{All-set, All-weaker}
-use Rattle.std.proofs.lemmas.Bool.{cases_eq, cases_lt}
+use Rattle.std.proofs.lemmas.Bool.{cases_eq}
 use Rattle.store.specs.declared.Version.{Version}
 use Rattle.store.specs.Meaning.{versions_in}
 use Rattle.versions.specs.declared.row.Row.{Row}
 use Rattle.versions.specs.Places.{depth_of, link_of, record_of, version_of, place_at, depth, link, walk, chain_from, chains_from, Down, Live, Mine, Headed, Owned, Numbered, Inside, Vacant, Apart, Counted}
 use Rattle.versions.specs.declared.table.Table.{Table}
-use Rattle.versions.specs.Tables.{chains_of, next_of}
-use Rattle.store.proofs.Lists.{map_same, some_is, versions_set}
+use Rattle.versions.specs.Tables.{chains_of, next_of, Grows}
+use Rattle.store.proofs.Lists.{map_same, versions_set}
 
 module _ {E : Type 0} where
-  -- a place that is used lies inside
-  pub used_inside : (ps : List (Option (Row E))) (i : ℕ) → 0 < depth ps i → i < length ps
-  used_inside ps i h = elim (cases_lt i (length ps)) [
-    | inl l ↦ l
-    | inr past ↦ (let z : depth ps i ≡ 0 = ap depth_of (get_or_past ps i None past) in absurd (omega arith))
-  ]
-
   -- steps to spare change nothing
   pub walk_spare : (e : E) (ps : List (Option (Row E))) → Down ps → Live ps → (m n : ℕ) (o : Option ℕ) → ((j : ℕ) → o ≡ Some j → (0 < depth ps j) × (depth ps j ≤ m) × (depth ps j ≤ n)) → walk e ps m o ≡ walk e ps n o
   walk_spare e ps down live zero zero o h = refl
@@ -125,33 +118,31 @@ module _ {E : Type 0} where
         chains_before = map_same (chain_from a.first qs) (chain_from a.first ps) ns (λ k m.
             (let j = get_or ns k 0 in
             let u = a.headed k 0 m in
-            ap (λ n. walk a.first qs n (Some j)) (ap depth_of (apart ps i new free j u)) ∙ walk_set ps i new free a.first a.live (depth ps j) (Some j) (λ o s. let z = ap (depth ps) (some_is j o s) in omega arith)))
+            ap (λ n. walk a.first qs n (Some j)) (ap depth_of (apart ps i new free j u)) ∙ walk_set ps i new free a.first a.live (depth ps j) (Some j) (λ o s. let z : depth ps j ≡ depth ps o = cc in omega arith)))
 
         chain_new : chain_from a.first qs i ≡ chain_from a.first ps h ++ v ∷ []
         chain_new =
             let n = a.numbered h in
             let u = head_used in
-            let old = walk_set ps i new free a.first a.live v.number (Some h) (λ o s. let z = ap (depth ps) (some_is h o s) in omega arith) in
-            let spare = walk_spare a.first ps a.down a.live v.number (depth ps h) (Some h) (λ o s. let z = ap (depth ps) (some_is h o s) in (omega arith, omega arith, omega arith)) in
+            let old = walk_set ps i new free a.first a.live v.number (Some h) (λ o s. let z : depth ps h ≡ depth ps o = cc in omega arith) in
+            let spare = walk_spare a.first ps a.down a.live v.number (depth ps h) (Some h) (λ o s. let z : depth ps h ≡ depth ps o = cc in (omega arith, omega arith, omega arith)) in
             chain_used a.first qs i (record { version = v; owner = r; older = Some h }) (sym at_new) ∙ ap (λ w. w ++ v ∷ []) (old ∙ spare)
 
-        pub table_chains : chains_from a.first qs ms ≡ set (chains_of a) r (get_or (chains_of a) r [] ++ v ∷ [])
+        table_chains : chains_from a.first qs ms ≡ set (chains_of a) r (get_or (chains_of a) r [] ++ v ∷ [])
         table_chains =
             map-set (chain_from a.first qs) ns r i
             ∙ ap (λ cs. set cs r (chain_from a.first qs i)) chains_before
             ∙ ap (set (chains_of a) r) (chain_new ∙ ap (λ c. c ++ v ∷ []) (sym head_chain))
 
-        pub table_next : versions_in (chains_from a.first qs ms) ≡ next_of a + 1
+        table_next : versions_in (chains_from a.first qs ms) ≡ next_of a + 1
         table_next = ap versions_in table_chains ∙ versions_set (chains_of a) r v l
-
-        pub table_size : length (chains_from a.first qs ms) ≡ length (chains_of a)
-        table_size = ap length table_chains ∙ length-set (chains_of a) r _
 
         link_new : (j m : ℕ) → link qs j ≡ Some m → (0 < depth ps m) × (depth ps m < depth qs j) × (record_of (place_at ps m) ≡ record_of (place_at qs j))
         link_new j m e = elim (cases_eq j i) [
           | inl here ↦
               (let at : place_at qs j ≡ new = ap (place_at qs) here ∙ at_new in
-              let s : h ≡ m = some_is h m (sym (ap link_of at) ∙ e) in
+              let t = ap link_of at in
+              let s : h ≡ m = cc in
               let d = ap depth_of at in
               let b = ap (depth ps) s in
               let n = a.numbered h in
@@ -212,4 +203,18 @@ module _ {E : Type 0} where
               vacant = vacant_push;
               apart = λ j k d m o e. a.apart j k d m (omega arith) (free_at j d (omega arith) ∙ e ∙ sym (free_at k d o));
               counted = (let more = table_next in let c = a.counted in omega arith);
+            }
+
+        -- the table b that the places and the newest versions make
+        pub table_grown : (b : Table E) → b.first ≡ a.first → vec_items b.places ≡ qs → vec_items b.newest ≡ ms
+            → Grows a b (set (chains_of a) r (get_or (chains_of a) r [] ++ record { number = next_of a; stamp = v.stamp; entry = v.entry } ∷ [])) 1
+        table_grown b first places newest =
+            let same : chains_of b ≡ chains_from a.first qs ms = ap (λ e. chains_from e (vec_items b.places) (vec_items b.newest)) first ∙ ap (λ x. chains_from a.first x (vec_items b.newest)) places ∙ ap (chains_from a.first qs) newest in
+            let as' = ap (λ n. set (chains_of a) r (get_or (chains_of a) r [] ++ record { number = n; stamp = v.stamp; entry = v.entry } ∷ [])) number in
+            record {
+              chains = same ∙ table_chains ∙ as';
+              next = ap versions_in same ∙ table_next;
+              size = ap length (same ∙ table_chains) ∙ length-set (chains_of a) r _;
+              room = ap length places ∙ length-set ps i new;
+              first = first;
             }

@@ -1,6 +1,6 @@
 -- How a record's chain is read off the places. A version's depth is its number plus one, a free place has depth 0,
 -- and a link leads to a lower depth: so the way from a place has as many steps as its depth, at most.
-use Rattle.std.specs.Prelude.{◌≡◌, ◌≢◌, ℕ, zero, suc, ◌+◌, ◌<◌, ◌≤◌, cond, nat_lt, List, [], ◌∷◌, ◌++◌, map, length, Some, None, Option, slice_index, slice_index_or}
+use Rattle.std.specs.Prelude.{◌≡◌, ◌≢◌, ℕ, zero, suc, ◌+◌, ◌<◌, ◌≤◌, List, [], ◌∷◌, ◌++◌, map, length, Some, None, Option, slice_index, slice_index_or}
 use Rattle.std.specs.List.{All, AllPairs}
 use Rattle.store.specs.declared.Version.{Version}
 use Rattle.store.specs.Meaning.{origin, versions_in}
@@ -71,10 +71,6 @@ module _ {E : Type 0} where
 
   abbrev pub Counted : E → List (Option (Row E)) → List ℕ → List ℕ → Type 0
   Counted e ps newest free = versions_in (chains_from e ps newest) + length free ≡ length ps
-
-  -- what a place of a fresh table holds: the first version of the record of its number, if there is one
-  abbrev pub first_place : E → ℕ → ℕ → Option (Row E)
-  first_place e records i = cond (nat_lt i records) (Some (record { version = record { number = i; stamp = 0; entry = e }; owner = i; older = None })) None
 
 -- no place stands twice in the stack
 abbrev pub Apart : List ℕ → Type 0

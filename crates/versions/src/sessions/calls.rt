@@ -8,6 +8,7 @@ use crate::session::Hold;
 use crate::sessions::Sessions;
 use store::{ConsoleId, Pending, Refusal};
 
+// Kept: `at < records_of` is asked by three methods, since the bound is a number of the value and no type states it.
 impl<E: Copy> Sessions<E> {
     // How many entries are pending.
     pub(crate) fn count(&self) -> usize
@@ -84,7 +85,7 @@ impl<E: Copy> Sessions<E> {
         let session = &mut self.sessions[console.number as usize];
         self.count -= session.pending.len();
         session.began = None;
-        session.pending.clear();
+        session.pending.truncate(0);
     }
 
     // Replaces the entry that is pending at `hold`.

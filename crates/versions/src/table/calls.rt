@@ -9,6 +9,7 @@ use crate::table::Table;
 use store::kind::Kind;
 use store::{Pending, Version};
 
+// Kept: `at < length (chains_of ..)` is asked by three methods, since the bound is a number of the value and no type states it.
 impl<E: Copy> Table<E> {
     // How many records there are.
     pub(crate) fn size(&self) -> u32
@@ -31,7 +32,7 @@ impl<E: Copy> Table<E> {
         self.places.len() - self.free.len()
     }
 
-    // The version at a place that has one.
+    // The row of a place that has a version.
     fn used(&self, place: u16) -> &Row<E>
         requires { 0 < depth (places_of self.now) place }
         ensures { Some result.now ≡ place_at (places_of self.now) place }

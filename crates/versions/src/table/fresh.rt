@@ -1,7 +1,6 @@
 ghost use Rattle.std.specs.Prelude.{◌≡◌, ℕ, ◌≤◌, IfOk};
 ghost use Rattle.store.specs.Meaning.{firsts};
 ghost use Rattle.versions.specs.Tables.{chains_of, room_of, first_of, next_of};
-ghost use Rattle.versions.specs.Places.{first_place};
 
 use crate::row::Row;
 use crate::table::Table;
@@ -18,7 +17,17 @@ impl<E: Copy> Table<E> {
             places: room,
         } = size;
         let places = (0..room)
-            .map(|place| first_place(first, records, place))
+            .map(|place| {
+                (place < records).then_some(Row {
+                    version: Version {
+                        number: u32::from(place),
+                        stamp: 0,
+                        entry: first,
+                    },
+                    owner: u32::from(place),
+                    older: None,
+                })
+            })
             .collect(heap)?;
         let newest = (0..records).collect(heap)?;
         let mut free = Vec::with_capacity(heap, usize::from(room))?;
@@ -30,22 +39,4 @@ impl<E: Copy> Table<E> {
             free,
         })
     }
-}
-
-// What a place of a fresh table holds: the first version of the record of its number, if there is one.
-fn first_place<E: Copy>(first: E, records: u16, place: u16) -> Option<Row<E>>
-    ensures { result ≡ first_place first records place }
-{
-    if place >= records {
-        return None;
-    }
-    Some(Row {
-        version: Version {
-            number: u32::from(place),
-            stamp: 0,
-            entry: first,
-        },
-        owner: u32::from(place),
-        older: None,
-    })
 }

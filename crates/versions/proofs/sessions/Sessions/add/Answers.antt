@@ -26,7 +26,7 @@ invariant_of-self g c =
     let at = c.index_mut-session.ensures.value in
     let cap = session_room a k.number k.few x at in
     let long : length (vec_items a.holds) ≤ vec_capacity c.push_reserved.new.self = omega arith in
-    let kept = add_kept a k.number k.few x at (record { began = x.began; pending = c.push_reserved.new.self }) c.args.at c.args.entry refl c.push_reserved.ensures.items c.requires.within c.requires.free c.requires.live long
+    let kept = add_kept a k.number k.few x at (record { began = x.began; pending = c.push_reserved.new.self }) c.args.at c.args.entry refl c.push_reserved.ensures.items c.requires.free c.requires.within c.requires.live long
     (record { console = k; place = c.len-place.result }) refl (omega arith) in
     search rules
 
@@ -35,7 +35,6 @@ returns g c =
     let a = c.args.self.now in
     let k = c.args.console in
     record {
-      consoles = add_is a k.number k.few c.index_mut-session.result.now c.index_mut-session.ensures.value _ c.args.at c.args.entry refl c.push_reserved.ensures.items
-          c.requires.within c.requires.free c.requires.live;
+      consoles = add_is a k.number k.few c.index_mut-session.result.now c.index_mut-session.ensures.value _ c.args.at c.args.entry refl c.push_reserved.ensures.items c.requires.free;
       records = length-set (vec_items a.holds) c.args.at _;
     }

@@ -15,7 +15,7 @@ invariant_of-self g c =
     let at = c.index_mut-session.ensures.value in
     let most = session_count a k.number k.few x at in
     let cap = session_room a k.number k.few x at in
-    let kept = clear_kept a k.number k.few x at (record { began = None; pending = c.clear.new.self }) (a.count - c.len.result) (omega (arith, c.clear.ensures.capacity)) c.clear.ensures.items (omega arith) in
+    let kept = clear_kept a k.number k.few x at (record { began = None; pending = c.truncate.new.self }) (a.count - c.len.result) (omega (arith, c.truncate.ensures.capacity)) c.truncate.ensures.items (omega arith) in
     search rules
 
 pub returns : goal.returns

@@ -5,8 +5,8 @@ use Rattle.std.proofs.lemmas.Iterator.{YieldsList-from_range, YieldsList-from_ma
 use Rattle.std.proofs.lemmas.Iterator.Adapters.{items_from_extend}
 use Rattle.store.specs.Meaning.{versions_in}
 use Rattle.store.proofs.Lists.{firsts_many}
-use Rattle.versions.specs.Places.{chains_from, first_place}
-use Rattle.versions.proofs.Starts.{first_places, first_chains, first_kept}
+use Rattle.versions.specs.Places.{chains_from}
+use Rattle.versions.proofs.Starts.{first_place, first_places, first_chains, first_kept}
 use Rattle.versions.proofs.table.Table.fresh.Goals as goal
 
 pub invariant_of-result : goal.invariant_of-result
@@ -24,19 +24,7 @@ invariant_of-result g c =
     let kept = first_kept e n m (omega arith) (vec_items c.in_ok-places.places) (vec_items c.in_ok-newest.newest) (vec_items c.extend.new.self) places newest (free.0 ∙ ap (λ xs. xs ++ range_with_len n (m - n)) none.items) in
     let long = ap length places ∙ length-map-range_with_len (first_place e n) 0 m in
     let heads = ap length newest ∙ length-range_with_len 0 n in
-    record {
-      fits = (omega arith, omega arith, omega (arith, free.2, none.capacity));
-      down = kept.down;
-      live = kept.live;
-      mine = kept.mine;
-      headed = kept.headed;
-      owned = kept.owned;
-      numbered = kept.numbered;
-      inside = kept.inside;
-      vacant = kept.vacant;
-      apart = kept.apart;
-      counted = kept.counted;
-    }
+    search rules
 
 pub returns : goal.returns
 returns g c =

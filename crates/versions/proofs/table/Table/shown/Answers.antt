@@ -1,24 +1,9 @@
-use Rattle.std.proofs.Common.{sym, ap, ◌∙◌, arith}
-use Rattle.store.specs.Meaning.{origin, picked}
-use Rattle.versions.specs.Places.{depth_of}
+use Rattle.std.proofs.Common.{sym, ◌∙◌}
+use Rattle.store.specs.Meaning.{origin}
 use Rattle.versions.specs.Tables.{places_of}
-use Rattle.versions.proofs.Ways.{head_chain, chain_used}
 use Rattle.versions.proofs.Picks.{pick_here, pick_first, pick_older, linked_at}
 use Rattle.versions.proofs.table.Table.shown.Goals as goal
 use Rattle.versions.proofs.table.Table.shown.Goals.{else-loop-older-test, then-loop-older-test+in_default}
-
-pub loop-older-init : goal.loop-older-init
-loop-older-init g c =
-    let a = c.args.self.now in (
-      linked_at (places_of a) a.down a.live c.index.result.now c.used-row.result.now c.used-row.ensures,
-      ap (λ x. picked g.K.Kind.rules (origin a.first) x c.args.began) (head_chain a c.args.at c.requires c.index.result.now c.index.ensures ∙ chain_used a.first (places_of a) c.index.result.now c.used-row.result.now c.used-row.ensures),
-    )
-
-pub loop-older-smaller : goal.loop-older-smaller
-loop-older-smaller g c =
-    let low = c.loop-older.invariant.0 c.in-Some.older c.in-Some.is in
-    let next = ap depth_of c.used-row-in-loop-older.ensures in
-    omega arith
 
 pub loop-older-preserved : goal.loop-older-preserved
 loop-older-preserved g c =
