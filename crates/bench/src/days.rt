@@ -1,131 +1,155 @@
 // The days themselves: which calls are made, and in which sequence.
-use crate::dice::Dice;
 use crate::plan::{Plan, Shape};
 use crate::tally::Tally;
-use certifier::Log;
-use store::Store;
+use certifier::{Grant, Log};
+use dice::Dice;
+use store::{Seen, Store};
 
-// The calls of a transaction of a wide day: begin, four reads, a write, a commit.
-const CALLS: u32 = 7;
-
-// The call that each console of a wide day makes first.
-const FIRST: [u32; 16] = [0, 1, 2, 3, 4, 5, 6, 0, 1, 2, 3, 4, 5, 6, 0, 1];
-
-/// Works through a day.
-pub(crate) fn day<S: Store<u32>>(
-    log: &mut Log<S, u32>,
-    plan: &Plan,
-    dice: &mut Dice,
-    tally: &mut Tally,
-) {
-    match plan.shape {
-        Shape::Alone => alone(log, plan, dice, tally),
-        Shape::Wide => wide(log, plan, dice, tally),
-        Shape::Chains => chains(log, plan, tally),
-    }
+// A call of a transaction of a wide day.
+#[derive(Clone, Copy)]
+enum Step {
+    Begin,
+    Read,
+    Write,
+    Commit,
 }
 
-fn mask(number: u32) -> u32 {
-    number.saturating_sub(1)
+// The calls of such a transaction. The console after another is a call further.
+const STEPS: [Step; 7] = [
+    Step::Begin,
+    Step::Read,
+    Step::Read,
+    Step::Read,
+    Step::Read,
+    Step::Write,
+    Step::Commit,
+];
+
+/// A day under way: a fresh log, and what works on it.
+#[derive(Drop)]
+pub(crate) struct Day<S> {
+    pub(crate) log: Log<S, u32>,
+    pub(crate) plan: Plan,
+    pub(crate) dice: Dice,
+    pub(crate) tally: Tally,
 }
 
-// One transaction of console 0.
-fn transaction<S: Store<u32>>(
-    log: &mut Log<S, u32>,
-    plan: &Plan,
-    turn: u32,
-    dice: &mut Dice,
-    tally: &mut Tally,
-) {
-    let records = mask(plan.records);
-    let mut sum = tally.begun(log.begin(0));
-    for _read in 0..plan.reads {
-        sum = sum.wrapping_add(tally.saw(log.read(0, dice.roll() & records)));
-    }
-    if turn & mask(plan.every) == 0 {
-        sum = sum.wrapping_add(tally.wrote(log.write(0, dice.roll() & records, turn)));
-    }
-    let committed = tally.committed(log.commit(0));
-    tally.mix(sum.wrapping_add(committed));
-}
-
-fn alone<S: Store<u32>>(log: &mut Log<S, u32>, plan: &Plan, dice: &mut Dice, tally: &mut Tally) {
-    for turn in 0..plan.turns {
-        transaction(log, plan, turn, dice, tally);
-    }
-}
-
-// The call number `step` of a console's transaction.
-fn call<S: Store<u32>>(
-    log: &mut Log<S, u32>,
-    console: u32,
-    step: u32,
-    at: u32,
-    entry: u32,
-    tally: &mut Tally,
-) -> u32 {
-    match step {
-        0 => tally.begun(log.begin(console)),
-        5 => tally.wrote(log.write(console, at, entry)),
-        6 => tally.committed(log.commit(console)),
-        _ => tally.saw(log.read(console, at)),
-    }
-}
-
-// Each console makes one call.
-fn phase<S: Store<u32>>(
-    log: &mut Log<S, u32>,
-    plan: &Plan,
-    shift: u32,
-    entry: u32,
-    dice: &mut Dice,
-    tally: &mut Tally,
-) {
-    let records = mask(plan.records);
-    let mut sum = 0u32;
-    for (console, first) in (0..16u32).zip(FIRST.iter()) {
-        let from = first.wrapping_add(shift);
-        let step = if from < CALLS { from } else { from - CALLS };
-        let answer = call(log, console, step, dice.roll() & records, entry, tally);
-        sum = sum.wrapping_add(answer);
-    }
-    tally.mix(sum);
-}
-
-fn wide<S: Store<u32>>(log: &mut Log<S, u32>, plan: &Plan, dice: &mut Dice, tally: &mut Tally) {
-    for turn in 0..plan.turns {
-        for shift in 0..CALLS {
-            phase(log, plan, shift, turn, dice, tally);
+impl<S: Store<u32>> Day<S> {
+    /// Works through the day.
+    pub(crate) fn work(&mut self) {
+        match self.plan.shape {
+            Shape::Alone => self.alone(),
+            Shape::Wide => self.wide(),
+            Shape::Chains => self.chains(),
         }
     }
-}
 
-// Console 0 writes one record after the other while console 1 is open.
-fn grow<S: Store<u32>>(log: &mut Log<S, u32>, plan: &Plan, tally: &mut Tally) {
-    for turn in 0..plan.turns {
-        let begun = tally.begun(log.begin(0));
-        let wrote = tally.wrote(log.write(0, turn & mask(plan.records), turn));
-        let committed = tally.committed(log.commit(0));
-        tally.mix(begun.wrapping_add(wrote).wrapping_add(committed));
+    // What makes a call gives a number of its answer.
+    fn begin(&mut self, console: u32) -> u32 {
+        let stamp = self.log.begin(console).map(u32::from);
+        self.tally.number(stamp)
     }
-}
 
-// Console 1 reads every record.
-fn look<S: Store<u32>>(log: &mut Log<S, u32>, plan: &Plan, tally: &mut Tally) {
-    let mut sum = 0u32;
-    for at in 0..plan.records {
-        sum = sum.wrapping_add(tally.saw(log.read(1, at)));
+    fn read(&mut self, console: u32, at: u32) -> u32 {
+        let seen = self.log.read(console, at).map(|seen| match seen {
+            Seen::Own(entry) => entry,
+            Seen::Committed(version) => version.number.wrapping_mul(3).wrapping_add(version.entry),
+        });
+        self.tally.number(seen)
     }
-    tally.mix(sum);
-}
 
-fn chains<S: Store<u32>>(log: &mut Log<S, u32>, plan: &Plan, tally: &mut Tally) {
-    let begun = tally.begun(log.begin(1));
-    tally.mix(begun);
-    grow(log, plan, tally);
-    for _round in 0..plan.reads {
-        look(log, plan, tally);
+    fn write(&mut self, console: u32, at: u32, entry: u32) -> u32 {
+        let version = self.log.write(console, at, entry);
+        self.tally.number(version)
     }
-    let committed = tally.committed(log.commit(1));
-    tally.mix(committed);
+
+    fn commit(&mut self, console: u32) -> u32 {
+        let marks = self.log.commit(console).map(|Grant { low, high, .. }| {
+            self.tally.granted = self.tally.granted.wrapping_add(1);
+            u32::from(low).wrapping_mul(3).wrapping_add(u32::from(high))
+        });
+        self.tally.number(marks)
+    }
+
+    // A record that is thrown for.
+    fn thrown(&mut self) -> u32 {
+        self.plan.record(self.dice.roll())
+    }
+
+    // One transaction of console 0.
+    fn transaction(&mut self, turn: u32) {
+        let mut sum = self.begin(0);
+        for _read in 0..self.plan.reads {
+            let at = self.thrown();
+            sum = sum.wrapping_add(self.read(0, at));
+        }
+        if self.plan.writes(turn) {
+            let at = self.thrown();
+            sum = sum.wrapping_add(self.write(0, at, turn));
+        }
+        sum = sum.wrapping_add(self.commit(0));
+        self.tally.mix(sum);
+    }
+
+    fn alone(&mut self) {
+        for turn in 0..self.plan.turns {
+            self.transaction(turn);
+        }
+    }
+
+    // Each console makes one call.
+    fn phase(&mut self, shift: usize, entry: u32) {
+        let mut sum = 0u32;
+        for (console, step) in (0..16u32).zip(STEPS.iter().cycle().skip(shift)) {
+            let at = self.thrown();
+            let number = match step {
+                Step::Begin => self.begin(console),
+                Step::Read => self.read(console, at),
+                Step::Write => self.write(console, at, entry),
+                Step::Commit => self.commit(console),
+            };
+            sum = sum.wrapping_add(number);
+        }
+        self.tally.mix(sum);
+    }
+
+    fn wide(&mut self) {
+        for turn in 0..self.plan.turns {
+            for shift in 0..STEPS.len() {
+                self.phase(shift, turn);
+            }
+        }
+    }
+
+    // Console 0 writes one record after the other while console 1 is open.
+    fn grow(&mut self) {
+        for turn in 0..self.plan.turns {
+            let at = self.plan.record(turn);
+            let begun = self.begin(0);
+            let wrote = self.write(0, at, turn);
+            let committed = self.commit(0);
+            self.tally
+                .mix(begun.wrapping_add(wrote).wrapping_add(committed));
+        }
+    }
+
+    // Console 1 reads every record.
+    fn look(&mut self) {
+        let mut sum = 0u32;
+        for at in 0..self.plan.records {
+            sum = sum.wrapping_add(self.read(1, at));
+        }
+        self.tally.mix(sum);
+    }
+
+    fn chains(&mut self) {
+        let begun = self.begin(1);
+        self.tally.mix(begun);
+        self.grow();
+        for _round in 0..self.plan.reads {
+            self.look();
+        }
+        let committed = self.commit(1);
+        self.tally.mix(committed);
+    }
 }

@@ -2,20 +2,18 @@
 // more than one log opened.
 #![tactic(auto)]
 
-use anyhow::anyhow;
-use certifier::Log;
+use anyhow::bail;
 use std::env;
-use store::Store;
+use std::str::FromStr;
 use store::kind::{Newest, Snapshot};
 use versions::Versions;
 
 mod days;
-mod dice;
 mod plan;
 mod report;
 mod tally;
 
-use report::tell;
+use report::{Report, Shown, open};
 
 type NewestLog = Versions<u32, Newest>;
 
@@ -24,54 +22,34 @@ type SnapshotLog = Versions<u32, Snapshot>;
 /// What the program is asked for.
 #[derive(Clone, Copy)]
 enum Wanted {
-    Counts,
-    Times,
+    Lines(Shown),
     Opening,
 }
 
-fn asked(rt: &HostRuntime) -> anyhow::Result<Wanted> {
-    let mut wanted = Wanted::Counts;
-    for word in env::args(rt)? {
-        if word.as_str() == "times" {
-            wanted = Wanted::Times;
+impl FromStr for Wanted {
+    type Err = anyhow::Error;
+
+    fn from_str(word: &str) -> anyhow::Result<Wanted> {
+        match word {
+            "times" => Ok(Wanted::Lines(Shown::Times)),
+            "open" => Ok(Wanted::Opening),
+            _ => bail!("no such word"),
         }
-        if word.as_str() == "open" {
-            wanted = Wanted::Opening;
-        }
-    }
-    Ok(wanted)
-}
-
-// Opens the largest log and makes no call.
-fn open_one(rt: &HostRuntime) -> anyhow::Result<()> {
-    let opened: Result<Log<SnapshotLog, u32>, _> = Log::open(rt.alloc(), 256, 2048, 0);
-    match opened {
-        Ok(_) => Ok(()),
-        Err(_) => Err(anyhow!("no log")),
     }
 }
 
-fn both(rt: &HostRuntime, plan: &plan::Plan, timed: bool) -> anyhow::Result<()> {
-    tell::<NewestLog>(rt, "newest", plan, timed)?;
-    tell::<SnapshotLog>(rt, "snapshot", plan, timed)
-}
-
-fn all(rt: &HostRuntime, timed: bool) -> anyhow::Result<()> {
-    both(rt, &plan::ALONE, timed)?;
-    both(rt, &plan::WIDE, timed)?;
-    both(rt, &plan::CROWDED, timed)?;
-    tell::<SnapshotLog>(rt, "snapshot", &plan::CHAINS, timed)?;
-    both(rt, &plan::FULL_DAY, timed)?;
-    for plan in &plan::SCALES {
-        tell::<SnapshotLog>(rt, "snapshot", plan, timed)?;
-    }
-    Ok(())
+// What the last word that is known asks for.
+fn asked(rt: HostRuntime) -> anyhow::Result<Wanted> {
+    let known = env::args(&rt)?.filter_map(|word| word.as_str().parse::<Wanted>().ok());
+    Ok(known.last().unwrap_or(Wanted::Lines(Shown::Counts)))
 }
 
 fn main(rt: HostRuntime) -> anyhow::Result<()> {
-    match asked(&rt)? {
-        Wanted::Counts => all(&rt, false),
-        Wanted::Times => all(&rt, true),
-        Wanted::Opening => open_one(&rt),
+    match asked(rt)? {
+        Wanted::Lines(shown) => Report { rt, shown }.all(),
+        Wanted::Opening => {
+            let _log = open::<SnapshotLog>(rt, &plan::ALONE)?;
+            Ok(())
+        }
     }
 }

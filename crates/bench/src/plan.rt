@@ -29,6 +29,28 @@ pub(crate) struct Plan {
     pub(crate) days: u32,
 }
 
+impl Plan {
+    /// The record that a number stands for.
+    pub(crate) fn record(&self, number: u32) -> u32 {
+        number & self.records.saturating_sub(1)
+    }
+
+    /// Whether a console's transaction writes, by its turn.
+    pub(crate) fn writes(&self, turn: u32) -> bool {
+        turn & self.every.saturating_sub(1) == 0
+    }
+
+    /// What a round's time is divided by: its transactions, or by `Chains` the reads of the old reader.
+    pub(crate) fn units(&self) -> u64 {
+        let each = match self.shape {
+            Shape::Alone => u64::from(self.turns),
+            Shape::Wide => u64::from(self.turns).wrapping_mul(16),
+            Shape::Chains => u64::from(self.reads).wrapping_mul(u64::from(self.records)),
+        };
+        each.wrapping_mul(u64::from(self.days))
+    }
+}
+
 /// One console: four reads and a write.
 pub(crate) const ALONE: Plan = Plan {
     name: "alone",

@@ -1,99 +1,120 @@
 // A line for each plan: its counts, or the time of a transaction.
-use crate::days::day;
-use crate::dice::Dice;
-use crate::plan::{Plan, Shape};
+use crate::days::Day;
+use crate::plan::{self, Plan};
 use crate::tally::Tally;
+use crate::{NewestLog, SnapshotLog};
 use anyhow::anyhow;
 use certifier::Log;
+use dice::Dice;
 use std::io;
-use std::time::Instant;
-use store::{OpenFault, Store};
+use std::time::{Duration, Instant};
+use store::Store;
 
 // Rounds of which the fastest counts.
 const ROUNDS: u32 = 40;
 
-/// Prints the plan's line.
-pub(crate) fn tell<S: Store<u32>>(
-    rt: &HostRuntime,
-    kind: &str,
-    plan: &Plan,
-    timed: bool,
-) -> anyhow::Result<()> {
-    if timed {
-        return time::<S>(rt, kind, plan);
-    }
-    let mut tally = Tally::new();
-    days::<S>(rt, plan, 1, &mut tally)?;
-    count(rt, kind, plan, &tally)?;
-    Ok(())
+/// What a line shows of its plan.
+#[derive(Clone, Copy)]
+pub(crate) enum Shown {
+    Counts,
+    Times,
 }
 
-// Works through so many days, each on a log of its own.
-fn days<S: Store<u32>>(
-    rt: &HostRuntime,
-    plan: &Plan,
-    days: u32,
-    tally: &mut Tally,
-) -> anyhow::Result<()> {
-    let mut dice = Dice { seed: 1 };
-    for _day in 0..days {
-        let opened: Result<Log<S, u32>, OpenFault> = Log::open(
-            rt.alloc(),
-            plan.records,
-            plan.room,
-            0,
-        );
-        let Ok(mut log) = opened else {
-            return Err(anyhow!("no log"));
-        };
-        day(&mut log, plan, &mut dice, tally);
-    }
-    Ok(())
+/// A fresh log of the plan.
+pub(crate) fn open<S: Store<u32>>(rt: HostRuntime, plan: &Plan) -> anyhow::Result<Log<S, u32>> {
+    Log::open(rt.alloc(), plan.records, plan.room, 0).map_err(|_| anyhow!("no log"))
 }
 
-fn count(rt: &HostRuntime, kind: &str, plan: &Plan, tally: &Tally) -> io::Result<()> {
-    let name = plan.name;
-    let granted = tally.granted;
-    let sum = tally.sum;
-    print!(rt; "{name} {kind}: granted {granted}, sum {sum}")?;
-    for (number, times) in tally.refused.iter().enumerate() {
-        if *times > 0 {
-            print!(rt; ", no {number} {times}")?;
+/// The lines of all plans.
+#[derive(Clone, Copy)]
+pub(crate) struct Report {
+    pub(crate) rt: HostRuntime,
+    pub(crate) shown: Shown,
+}
+
+impl Report {
+    /// Prints all lines.
+    pub(crate) fn all(&self) -> anyhow::Result<()> {
+        self.both(&plan::ALONE)?;
+        self.both(&plan::WIDE)?;
+        self.both(&plan::CROWDED)?;
+        self.tell::<SnapshotLog>("snapshot", &plan::CHAINS)?;
+        self.both(&plan::FULL_DAY)?;
+        for plan in &plan::SCALES {
+            self.tell::<SnapshotLog>("snapshot", plan)?;
         }
+        Ok(())
     }
-    println!(rt; "")
-}
 
-// What a day's time is divided by: its transactions, or by `Chains` the reads of the old reader.
-fn units(plan: &Plan) -> u64 {
-    let each = match plan.shape {
-        Shape::Alone => u64::from(plan.turns),
-        Shape::Wide => u64::from(plan.turns).wrapping_mul(16),
-        Shape::Chains => u64::from(plan.reads).wrapping_mul(u64::from(plan.records)),
-    };
-    each.wrapping_mul(u64::from(plan.days))
-}
-
-// The nanoseconds of a round.
-fn round<S: Store<u32>>(rt: &HostRuntime, plan: &Plan, tally: &mut Tally) -> anyhow::Result<u64> {
-    let start = Instant::now(rt)?;
-    days::<S>(rt, plan, plan.days, tally)?;
-    let span = start.elapsed(rt)?;
-    let seconds = span.as_secs().wrapping_mul(1_000_000_000);
-    Ok(seconds.wrapping_add(u64::from(span.subsec_nanos())))
-}
-
-fn time<S: Store<u32>>(rt: &HostRuntime, kind: &str, plan: &Plan) -> anyhow::Result<()> {
-    let mut tally = Tally::new();
-    let mut best = u64::MAX;
-    for _round in 0..ROUNDS {
-        best = best.min(round::<S>(rt, plan, &mut tally)?);
+    // The lines of a plan on both kinds of store.
+    fn both(&self, plan: &Plan) -> anyhow::Result<()> {
+        self.tell::<NewestLog>("newest", plan)?;
+        self.tell::<SnapshotLog>("snapshot", plan)
     }
-    let tenths = best.wrapping_mul(10) / units(plan).max(1);
-    let whole = tenths / 10;
-    let part = tenths % 10;
-    let name = plan.name;
-    let sum = tally.sum;
-    println!(rt; "{name} {kind} {whole}.{part} {sum}")?;
-    Ok(())
+
+    // The line of a plan.
+    fn tell<S: Store<u32>>(&self, kind: &str, plan: &Plan) -> anyhow::Result<()> {
+        let mut tally = Tally::new();
+        match self.shown {
+            Shown::Counts => {
+                self.days::<S>(plan, 1, &mut tally)?;
+                self.counts(kind, plan, &tally)?;
+            }
+            Shown::Times => {
+                let least = self.least::<S>(plan, &mut tally)?;
+                self.times(kind, plan, &tally, least)?;
+            }
+        }
+        Ok(())
+    }
+
+    // Works through so many days, each on a log of its own.
+    fn days<S: Store<u32>>(&self, plan: &Plan, days: u32, tally: &mut Tally) -> anyhow::Result<()> {
+        let mut dice = Dice::new(1);
+        for _day in 0..days {
+            let mut day: Day<S> = Day {
+                log: open(self.rt, plan)?,
+                plan: *plan,
+                dice,
+                tally: *tally,
+            };
+            day.work();
+            dice = day.dice;
+            *tally = day.tally;
+        }
+        Ok(())
+    }
+
+    fn counts(&self, kind: &str, plan: &Plan, tally: &Tally) -> io::Result<()> {
+        let name = plan.name;
+        let Tally { granted, sum, .. } = tally;
+        print!(self.rt; "{name} {kind}: granted {granted}, sum {sum}")?;
+        for (number, times) in tally.refused.iter().enumerate() {
+            if *times > 0 {
+                print!(self.rt; ", no {number} {times}")?;
+            }
+        }
+        println!(self.rt; "")
+    }
+
+    // How long the fastest round took.
+    fn least<S: Store<u32>>(&self, plan: &Plan, tally: &mut Tally) -> anyhow::Result<Duration> {
+        let mut least = Duration::MAX;
+        for _round in 0..ROUNDS {
+            let start = Instant::now(&self.rt)?;
+            self.days::<S>(plan, plan.days, tally)?;
+            least = least.min(start.elapsed(&self.rt)?);
+        }
+        Ok(least)
+    }
+
+    // The nanoseconds of a transaction, to the tenth.
+    fn times(&self, kind: &str, plan: &Plan, tally: &Tally, round: Duration) -> io::Result<()> {
+        let name = plan.name;
+        let sum = tally.sum;
+        let tenths = round.as_nanos().saturating_mul(10) / u128::from(plan.units().max(1));
+        let whole = tenths / 10;
+        let part = tenths % 10;
+        println!(self.rt; "{name} {kind} {whole}.{part} {sum}")
+    }
 }

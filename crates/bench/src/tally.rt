@@ -1,11 +1,11 @@
-// What a day counted. What takes an answer gives a number of it, or counts its refusal and gives 0.
-use certifier::{Grant, LogRefusal};
-use store::Seen;
+// What a day counted.
+use certifier::LogRefusal;
 
 #[derive(Clone, Copy)]
 pub(crate) struct Tally {
     pub(crate) granted: u32,
     /// the refusals by their number
+    // Kept: by a BTreeMap in its place a transaction of `alone newest` took 79 ns and not 60, of `crowded newest` 119 and not 80.
     pub(crate) refused: [u32; 16],
     /// all numbers that were answered, mixed into one
     pub(crate) sum: u32,
@@ -25,48 +25,17 @@ impl Tally {
         self.sum = self.sum.wrapping_mul(31).wrapping_add(sum);
     }
 
-    fn refuse(&mut self, refusal: LogRefusal) -> u32 {
-        let number = refusal.code().number as usize;
-        if number < 16 {
-            self.refused[number] = self.refused[number].wrapping_add(1);
-        }
-        0
+    /// The number that was answered. A refusal is counted, and its number is 0.
+    pub(crate) fn number(&mut self, answer: Result<u32, LogRefusal>) -> u32 {
+        answer.unwrap_or_else(|refusal| {
+            self.refuse(refusal);
+            0
+        })
     }
 
-    pub(crate) fn begun(&mut self, answer: Result<u16, LogRefusal>) -> u32 {
-        match answer {
-            Ok(stamp) => u32::from(stamp),
-            Err(refusal) => self.refuse(refusal),
-        }
-    }
-
-    pub(crate) fn saw(&mut self, answer: Result<Seen<u32>, LogRefusal>) -> u32 {
-        match answer {
-            Ok(Seen::Own(entry)) => entry,
-            Ok(Seen::Committed(version)) => version
-                .number
-                .wrapping_mul(3)
-                .wrapping_add(version.entry),
-            Err(refusal) => self.refuse(refusal),
-        }
-    }
-
-    pub(crate) fn wrote(&mut self, answer: Result<u32, LogRefusal>) -> u32 {
-        match answer {
-            Ok(version) => version,
-            Err(refusal) => self.refuse(refusal),
-        }
-    }
-
-    pub(crate) fn committed(&mut self, answer: Result<Grant, LogRefusal>) -> u32 {
-        match answer {
-            Ok(grant) => {
-                self.granted = self.granted.wrapping_add(1);
-                u32::from(grant.low)
-                    .wrapping_mul(3)
-                    .wrapping_add(u32::from(grant.high))
-            }
-            Err(refusal) => self.refuse(refusal),
+    fn refuse(&mut self, refusal: LogRefusal) {
+        if let Some(times) = self.refused.get_mut(refusal.code().number as usize) {
+            *times = times.wrapping_add(1);
         }
     }
 }

@@ -1,11 +1,10 @@
 // Inspection cards: the plain row that a log holds, and the card that is made of it.
 #![tactic(auto)]
 
-ghost use Rattle.std.specs.Prelude.{◌≡◌, eqb};
-ghost use Rattle.store.specs.Refusals.{answer_by};
-ghost use Rattle.cards.specs.Cards.{is_due, code_of, card_of};
-ghost use Rattle.cards.specs.Rows.{row_of};
+ghost use Rattle.std.specs.Prelude.{◌≡◌, Some};
+ghost use Rattle.cards.specs.Cards.{is_due, state_text, code_of};
 
+use std::fmt;
 use store::{Code, Layer};
 
 mod card;
@@ -13,7 +12,7 @@ mod card;
 pub use crate::card::Card;
 
 /// What an inspection came to.
-#[derive(Clone, Copy)]
+#[derive(Clone, Copy, Debug, PartialEq, Eq)]
 pub enum State {
     /// not inspected yet
     Due,
@@ -21,8 +20,29 @@ pub enum State {
     Failed,
 }
 
+impl State {
+    /// Whether the card waits for its inspection.
+    pub fn is_due(self) -> bool
+        ensures { result ≡ is_due self }
+    {
+        self == State::Due
+    }
+}
+
+impl fmt::Display for State {
+    ghost output = { λ s. Some (state_text s) };
+
+    fn fmt<W: fmt::Write>(&self, f: &mut fmt::Formatter<W>) -> fmt::Result {
+        f.write_str(match self {
+            State::Due => "due",
+            State::Passed => "passed",
+            State::Failed => "failed",
+        })
+    }
+}
+
 /// An inspection card's plain numbers: what a log of cards holds.
-#[derive(Clone, Copy)]
+#[derive(Clone, Copy, Debug, PartialEq, Eq)]
 pub struct CardRow {
     pub state: State,
     pub day: u16,
@@ -30,7 +50,7 @@ pub struct CardRow {
 }
 
 /// Why a card is not made.
-#[derive(Clone, Copy)]
+#[derive(Clone, Copy, Debug, PartialEq, Eq)]
 pub enum CardRefusal {
     /// an inspector on a card that is due, or none on one that is not
     Inspector,
@@ -47,36 +67,5 @@ impl CardRefusal {
                 layer: Layer::Card,
             },
         }
-    }
-}
-
-impl State {
-    /// Whether the card waits for its inspection.
-    pub fn is_due(self) -> bool
-        ensures { result ≡ is_due self }
-    {
-        match self {
-            State::Due => true,
-            State::Passed | State::Failed => false,
-        }
-    }
-}
-
-impl Card {
-    /// The card of a row. Refused: 15 where its inspector is not 0 exactly when it is due.
-    pub fn new(row: CardRow) -> Result<Card, CardRefusal>
-        ensures { answer_by row_of code_of result ≡ card_of row }
-    {
-        if (row.inspector == 0) != row.state.is_due() {
-            return Err(CardRefusal::Inspector);
-        }
-        Ok(Card { row })
-    }
-
-    /// The plain row of the card, as a log holds it.
-    pub fn row(&self) -> CardRow
-        ensures { result ≡ row_of self.now }
-    {
-        self.row
     }
 }

@@ -7,6 +7,8 @@ use Rattle.store.specs.Refusals.{Answer, answer_by, open_code}
 use Rattle.store.specs.Meaning.{State, Range, Unopened}
 use Rattle.certifier.specs.declared.track.Tracks.{Tracks}
 use Rattle.certifier.specs.declared.log.Log.{Log}
+use Rattle.certifier.specs.declared.Accepted.{Accepted}
+use Rattle.certifier.specs.declared.Accepted.TheVariants as accepted
 use Rattle.certifier.specs.declared.Grant.{Grant}
 use Rattle.certifier.specs.declared.LogRefusal.{LogRefusal}
 use Rattle.certifier.specs.Refusals.{code_of}
@@ -54,6 +56,17 @@ module _ {E : Type 0} where
 
   abbrev pub drop_reply : Result Unit LogRefusal → Reply E
   drop_reply r = reply_by (λ _. dropped) r
+
+  -- of any call
+  abbrev pub accepted_reply : Accepted E → Reply E
+  accepted_reply (accepted.Begun b) = begun b
+  accepted_reply (accepted.Seen x) = seen_reply x
+  accepted_reply (accepted.Overwrites n) = overwrites n
+  accepted_reply (accepted.Granted g) = granted g
+  accepted_reply accepted.Dropped = dropped
+
+  abbrev pub reply_of : Result (Accepted E) LogRefusal → Reply E
+  reply_of r = reply_by accepted_reply r
 
 -- what opening a log answers
 abbrev pub OpensLog : {S E : Type 0} → (S → State E) → ℕ → ℕ → E → Result (Log S E) OpenFault → Type 0

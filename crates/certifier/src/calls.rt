@@ -3,12 +3,12 @@ ghost use Rattle.std.specs.Prelude.{◌≡◌, ℕ, ◌%◌};
 ghost use Rattle.store.specs.Refusals as store;
 ghost use Rattle.certifier.specs.Refusals.{code_of, passed};
 ghost use Rattle.certifier.specs.Marking.{verdict_of};
-ghost use Rattle.certifier.specs.Meaning.{track_at, begin_step, read_step, write_step, commit_step, drop_step};
-ghost use Rattle.certifier.specs.Logs.{log_state, begin_reply, read_reply, write_reply, commit_reply, drop_reply};
+ghost use Rattle.certifier.specs.Meaning.{track_at, begin_step, read_step, write_step, commit_step, drop_step, step};
+ghost use Rattle.certifier.specs.Logs.{log_state, begin_reply, read_reply, write_reply, commit_reply, drop_reply, reply_of};
 
 use crate::log::Log;
-use crate::{Grant, LogRefusal};
-use store::{Refusal, Seen, Store};
+use crate::{Accepted, Answer, Call, Grant, LogRefusal};
+use store::{ConsoleId, Refusal, Seen, Store};
 
 impl From<Refusal> for LogRefusal {
     ghost from_gives = { λ x y. code_of y ≡ passed (store.code_of x) };
@@ -33,8 +33,9 @@ impl<S: Store<E>, E: Copy> Log<S, E> {
     pub fn begin(&mut self, console: u32) -> Result<u16, LogRefusal>
         ensures { (begin_reply result, log_state S.Store.state self.new) ≡ begin_step (log_state S.Store.state self.old) console }
     {
+        let id = ConsoleId::try_from(console)?;
         let stamp = self.store.begin(console)?;
-        self.tracks.clear(console);
+        self.tracks.clear(id);
         Ok(stamp)
     }
 
@@ -43,16 +44,12 @@ impl<S: Store<E>, E: Copy> Log<S, E> {
     pub fn read(&mut self, console: u32, at: u32) -> Result<Seen<E>, LogRefusal>
         ensures { (read_reply result, log_state S.Store.state self.new) ≡ read_step S.Store.rules (log_state S.Store.state self.old) console at }
     {
-        match self.store.read(console, at)? {
-            Seen::Own(entry) => Ok(Seen::Own(entry)),
-            Seen::Committed(version) => {
-                if self.tracks.note(console, version.number) {
-                    Ok(Seen::Committed(version))
-                } else {
-                    Err(LogRefusal::Reads)
-                }
-            }
+        let id = ConsoleId::try_from(console)?;
+        let seen = self.store.read(console, at)?;
+        if let Seen::Committed(version) = &seen {
+            self.tracks.note(id, version.number)?;
         }
+        Ok(seen)
     }
 
     /// Makes an entry pending at the record, and answers the number of the version that it will overwrite. A second
@@ -60,23 +57,16 @@ impl<S: Store<E>, E: Copy> Log<S, E> {
     pub fn write(&mut self, console: u32, at: u32, entry: E) -> Result<u32, LogRefusal>
         ensures { (write_reply result, log_state S.Store.state self.new) ≡ write_step S.Store.rules (log_state S.Store.state self.old) console at entry }
     {
-        if self.tracks.at(console).is_full() {
+        let id = ConsoleId::try_from(console)?;
+        if self.tracks.at(id).is_full() {
             match self.store.read(console, at)? {
                 Seen::Own(_) => {}
                 Seen::Committed(_) => return Err(LogRefusal::Writes),
             }
         }
         let version = self.store.write(console, at, entry)?;
-        self.tracks.write(console, at, version);
+        self.tracks.write(id, at, version);
         Ok(version)
-    }
-
-    // The marks that the console's transaction would commit with, at `stamp`.
-    fn judge(&self, stamp: u16, console: u32) -> Grant
-        ensures { result ≡ verdict_of (log_state S.Store.state self.now).marks stamp (track_at (log_state S.Store.state self.now) (console % 16)) }
-    {
-        let track = self.tracks.at(console);
-        self.marks.judge(stamp, track)
     }
 
     /// Commits the console's transaction where its high mark is below its low mark, and answers its stamp and both
@@ -84,18 +74,19 @@ impl<S: Store<E>, E: Copy> Log<S, E> {
     pub fn commit(&mut self, console: u32) -> Result<Grant, LogRefusal>
         ensures { (commit_reply result, log_state S.Store.state self.new) ≡ commit_step (log_state S.Store.state self.old) console }
     {
+        let id = ConsoleId::try_from(console)?;
         let stamp = self.store.clock().saturating_add(1);
-        let grant = self.judge(stamp, console);
+        let track = self.tracks.at(id);
+        let grant = self.marks.judge(stamp, track);
         if grant.high >= grant.low && stamp <= 4000 {
             self.store.drop(console)?;
-            self.tracks.clear(console);
+            self.tracks.clear(id);
             return Err(LogRefusal::Unsafe);
         }
         self.store.commit(console)?;
-        let track = self.tracks.at(console);
         self.marks.settle(grant, track);
         self.ranks.add(grant.low);
-        self.tracks.clear(console);
+        self.tracks.clear(id);
         Ok(grant)
     }
 
@@ -103,8 +94,27 @@ impl<S: Store<E>, E: Copy> Log<S, E> {
     pub fn drop(&mut self, console: u32) -> Result<(), LogRefusal>
         ensures { (drop_reply result, log_state S.Store.state self.new) ≡ drop_step (log_state S.Store.state self.old) console }
     {
+        let id = ConsoleId::try_from(console)?;
         self.store.drop(console)?;
-        self.tracks.clear(console);
+        self.tracks.clear(id);
         Ok(())
+    }
+
+    /// Makes a call that is given as a value.
+    pub fn call(&mut self, call: Call<E>) -> Answer<E>
+        ensures { (reply_of result, log_state S.Store.state self.new) ≡ step S.Store.rules (log_state S.Store.state self.old) call }
+    {
+        Ok(match call {
+            Call::Begin(console) => Accepted::Begun(self.begin(console)?),
+            Call::Read(console, at) => Accepted::Seen(self.read(console, at)?),
+            Call::Write(console, at, entry) => {
+                Accepted::Overwrites(self.write(console, at, entry)?)
+            }
+            Call::Commit(console) => Accepted::Granted(self.commit(console)?),
+            Call::Drop(console) => {
+                self.drop(console)?;
+                Accepted::Dropped
+            }
+        })
     }
 }

@@ -3,8 +3,9 @@
 
 ghost use Rattle.std.specs.Prelude.{◌≡◌};
 ghost use Rattle.certifier.specs.Refusals.{code_of};
+ghost use Rattle.certifier.specs.Marking.{new_mark};
 
-use store::{Code, Layer, Refusal};
+use store::{Code, Layer, Refusal, Seen};
 
 mod calls;
 mod entry;
@@ -87,6 +88,22 @@ pub enum Call<E> {
     Drop(u32),
 }
 
+/// What an accepted call answers.
+#[derive(Clone, Copy)]
+pub enum Accepted<E> {
+    /// the begin stamp
+    Begun(u16),
+    /// what the read saw
+    Seen(Seen<E>),
+    /// the number of the version that the write will overwrite
+    Overwrites(u32),
+    Granted(Grant),
+    Dropped,
+}
+
+/// What a call is answered.
+pub type Answer<E> = Result<Accepted<E>, LogRefusal>;
+
 /// What a granted commit answers: its stamp, its low mark and its high mark.
 #[derive(Clone, Copy)]
 pub struct Grant {
@@ -101,6 +118,19 @@ pub struct Mark {
     pub stamp: u16,
     pub high: u16,
     pub low: Option<u16>,
+}
+
+impl Mark {
+    // The marks of a version that the commit of that stamp makes.
+    pub(crate) const fn new(stamp: u16) -> Mark
+        ensures { result ≡ new_mark stamp }
+    {
+        Mark {
+            stamp,
+            high: stamp,
+            low: None,
+        }
+    }
 }
 
 // A record that a transaction wrote, and the version that it overwrites there.

@@ -6,7 +6,7 @@ use crate::ranks::Ranks;
 use crate::track::Tracks;
 use std::alloc::Global;
 use std::marker::PhantomData;
-use store::{OpenFault, Store};
+use store::{OpenFault, Store, TableSize};
 
 impl<S: Store<E>, E: Copy> Log<S, E> {
     /// Opens a log of `size` records, each at the entry `first`, in a store with `room` places. It takes all its memory
@@ -14,11 +14,9 @@ impl<S: Store<E>, E: Copy> Log<S, E> {
     pub fn open(heap: Global, size: u32, room: u32, first: E) -> Result<Log<S, E>, OpenFault>
         ensures { OpensLog S.Store.state size room first result }
     {
-        let store = match S::open(heap, size, room, first) {
-            Ok(store) => store,
-            Err(fault) => return Err(fault),
-        };
-        let marks = Marks::open(heap, size, room)?;
+        let table = TableSize::new(size, room)?;
+        let store = S::open(heap, size, room, first)?;
+        let marks = Marks::open(heap, table)?;
         let ranks = Ranks::open(heap)?;
         let tracks = Tracks::new();
         Ok(Log {

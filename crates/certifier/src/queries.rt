@@ -10,7 +10,7 @@ ghost use Rattle.certifier.specs.Logs.{log_state, answer_of};
 use crate::log::Log;
 use crate::track::Track;
 use crate::{LogRefusal, Mark};
-use store::Store;
+use store::{ConsoleId, Store};
 
 impl<S: Store<E>, E: Copy> Log<S, E> {
     /// How many commits there were.
@@ -31,19 +31,14 @@ impl<S: Store<E>, E: Copy> Log<S, E> {
     pub fn marks(&self, version: u32) -> Result<Mark, LogRefusal>
         ensures { answer_of result ≡ marks_of (log_state S.Store.state self.now) version }
     {
-        match self.marks.get(version) {
-            Some(mark) => Ok(mark),
-            None => Err(LogRefusal::NoVersion),
-        }
+        self.marks.get(version).ok_or(LogRefusal::NoVersion)
     }
 
     /// What is kept of the console's open transaction; nothing is where it has none. Refused: 1.
     pub fn track(&self, console: u32) -> Result<Track, LogRefusal>
         ensures { answer_by track_of code_of result ≡ track_told (log_state S.Store.state self.now) console }
     {
-        if console >= 16 {
-            return Err(LogRefusal::NoConsole);
-        }
+        let console = ConsoleId::try_from(console)?;
         Ok(*self.tracks.at(console))
     }
 
@@ -51,9 +46,7 @@ impl<S: Store<E>, E: Copy> Log<S, E> {
     pub fn noted(&self, console: u32) -> Result<&[u32], LogRefusal>
         ensures { answer_by (λ list. list.now) code_of result ≡ noted_of (log_state S.Store.state self.now) console }
     {
-        if console >= 16 {
-            return Err(LogRefusal::NoConsole);
-        }
+        let console = ConsoleId::try_from(console)?;
         Ok(self.tracks.at(console).noted.as_slice())
     }
 
@@ -62,9 +55,7 @@ impl<S: Store<E>, E: Copy> Log<S, E> {
     pub fn overwritten(&self, console: u32, list: &mut [u32]) -> Result<usize, LogRefusal>
         ensures { (answer_of result, list.new) ≡ overwritten_of (log_state S.Store.state self.now) console list.old }
     {
-        if console >= 16 {
-            return Err(LogRefusal::NoConsole);
-        }
+        let console = ConsoleId::try_from(console)?;
         let track = self.tracks.at(console);
         if list.len() < track.writes.as_slice().len() {
             return Err(LogRefusal::ShortList);

@@ -1,31 +1,77 @@
 // What a line says: a call, and what it was answered.
-use crate::ask::Say;
-use certifier::{Call, Grant, LogRefusal, Mark};
-use runs::Answer;
+use certifier::{Accepted, Call, Grant, LogRefusal, Mark};
 use std::{fmt, io};
-use store::{Code, Layer, OpenFault, Refusal, Seen, Version};
+use store::{Code, OpenFault, Refusal, Seen, Version};
 
-/// What a call was answered.
+/// How large a table is to be.
+#[derive(Clone, Copy)]
+pub(crate) struct Size {
+    pub(crate) records: u32,
+    pub(crate) places: u32,
+}
+
+impl Size {
+    pub(crate) fn new(records: u32, places: u32) -> Size {
+        Size { records, places }
+    }
+}
+
+impl fmt::Display for Size {
+    fn fmt<W: fmt::Write>(&self, f: &mut fmt::Formatter<W>) -> fmt::Result {
+        let Size { records, places } = self;
+        write!(f, "records {records}, places {places}")
+    }
+}
+
+/// What an accepted call says.
 #[derive(Clone, Copy)]
 pub(crate) enum Said {
     Done,
     Number(u32),
-    Own(u32),
-    Saw(Version<u32>),
+    Seen(Seen<u32>),
     Granted(Grant),
     Marked(Mark),
-    Refused(Code),
-    NoMemory,
 }
 
-fn layer_name(layer: Layer) -> &'static str {
-    match layer {
-        Layer::Store => "store",
-        Layer::Certifier => "certifier",
-        Layer::Opening => "opening",
-        Layer::Card => "card",
-        Layer::Sheet => "sheet",
-        Layer::File => "file",
+impl From<()> for Said {
+    fn from(_done: ()) -> Said {
+        Said::Done
+    }
+}
+
+impl From<u16> for Said {
+    fn from(number: u16) -> Said {
+        Said::Number(u32::from(number))
+    }
+}
+
+impl From<u32> for Said {
+    fn from(number: u32) -> Said {
+        Said::Number(number)
+    }
+}
+
+impl From<Seen<u32>> for Said {
+    fn from(seen: Seen<u32>) -> Said {
+        Said::Seen(seen)
+    }
+}
+
+impl From<Mark> for Said {
+    fn from(mark: Mark) -> Said {
+        Said::Marked(mark)
+    }
+}
+
+impl From<Accepted<u32>> for Said {
+    fn from(accepted: Accepted<u32>) -> Said {
+        match accepted {
+            Accepted::Begun(stamp) => stamp.into(),
+            Accepted::Seen(seen) => seen.into(),
+            Accepted::Overwrites(number) => number.into(),
+            Accepted::Granted(grant) => Said::Granted(grant),
+            Accepted::Dropped => Said::Done,
+        }
     }
 }
 
@@ -34,132 +80,105 @@ impl fmt::Display for Said {
         match *self {
             Said::Done => write!(f, "ok"),
             Said::Number(n) => write!(f, "ok {n}"),
-            Said::Own(entry) => write!(f, "ok own entry {entry}"),
-            Said::Saw(
-                Version {
+            Said::Seen(Seen::Own(entry)) => write!(f, "ok own entry {entry}"),
+            Said::Seen(Seen::Committed(version)) => {
+                let Version {
                     number,
                     stamp,
                     entry,
-                },
-            ) => { write!(f, "ok version {number} stamp {stamp} entry {entry}") }
+                } = version;
+                write!(f, "ok version {number} stamp {stamp} entry {entry}")
+            }
             Said::Granted(Grant { stamp, low, high }) => {
                 write!(f, "ok stamp {stamp} low {low} high {high}")
             }
-            Said::Marked(
-                Mark {
-                    stamp,
-                    high,
-                    low: Some(low),
-                },
-            ) => { write!(f, "ok stamp {stamp} high {high} low {low}") }
-            Said::Marked(
-                Mark {
-                    stamp,
-                    high,
-                    low: None,
-                },
-            ) => { write!(f, "ok stamp {stamp} high {high} low -") }
-            Said::Refused(code) => {
-                let number = code.number;
-                let layer = layer_name(code.layer);
-                write!(f, "no {number} {layer}")
+            Said::Marked(Mark { stamp, high, low }) => {
+                write!(f, "ok stamp {stamp} high {high} low ")?;
+                match low {
+                    Some(low) => write!(f, "{low}"),
+                    None => write!(f, "-"),
+                }
             }
-            Said::NoMemory => write!(f, "no memory"),
         }
     }
 }
 
-impl Say for () {
-    fn say(self) -> Said {
-        Said::Done
+/// Why a call or an opening is not accepted.
+#[derive(Clone, Copy)]
+pub(crate) enum Fault {
+    Refused(Code),
+    NoMemory,
+}
+
+impl From<Refusal> for Fault {
+    fn from(refusal: Refusal) -> Fault {
+        Fault::Refused(refusal.code())
     }
 }
 
-impl Say for u16 {
-    fn say(self) -> Said {
-        Said::Number(u32::from(self))
+impl From<LogRefusal> for Fault {
+    fn from(refusal: LogRefusal) -> Fault {
+        Fault::Refused(refusal.code())
     }
 }
 
-impl Say for u32 {
-    fn say(self) -> Said {
-        Said::Number(self)
+impl From<OpenFault> for Fault {
+    fn from(fault: OpenFault) -> Fault {
+        fault.code().map_or(Fault::NoMemory, Fault::Refused)
     }
 }
 
-impl Say for Seen<u32> {
-    fn say(self) -> Said {
-        match self {
-            Seen::Own(entry) => Said::Own(entry),
-            Seen::Committed(version) => Said::Saw(version),
+impl fmt::Display for Fault {
+    fn fmt<W: fmt::Write>(&self, f: &mut fmt::Formatter<W>) -> fmt::Result {
+        match *self {
+            Fault::Refused(Code { number, layer }) => write!(f, "no {number} {layer}"),
+            Fault::NoMemory => write!(f, "no memory"),
         }
     }
 }
 
-impl Say for Grant {
-    fn say(self) -> Said {
-        Said::Granted(self)
+/// An answer, as a line ends with it.
+#[derive(Clone, Copy)]
+pub(crate) struct Answered(pub(crate) Result<Said, Fault>);
+
+impl<T: Into<Said>, E: Into<Fault>> From<Result<T, E>> for Answered {
+    fn from(answer: Result<T, E>) -> Answered {
+        Answered(answer.map(|said| said.into()).map_err(|fault| fault.into()))
     }
 }
 
-impl Say for Mark {
-    fn say(self) -> Said {
-        Said::Marked(self)
-    }
-}
-
-impl Say for Refusal {
-    fn say(self) -> Said {
-        Said::Refused(self.code())
-    }
-}
-
-impl Say for LogRefusal {
-    fn say(self) -> Said {
-        Said::Refused(self.code())
-    }
-}
-
-impl Say for OpenFault {
-    fn say(self) -> Said {
-        match self.code() {
-            Some(code) => Said::Refused(code),
-            None => Said::NoMemory,
+impl fmt::Display for Answered {
+    fn fmt<W: fmt::Write>(&self, f: &mut fmt::Formatter<W>) -> fmt::Result {
+        match self.0 {
+            Ok(said) => write!(f, "{said}"),
+            Err(fault) => write!(f, "{fault}"),
         }
     }
 }
 
-impl Say for Answer<u32> {
-    fn say(self) -> Said {
-        match self {
-            Answer::Begun(stamp) => stamp.say(),
-            Answer::Own(entry) => Said::Own(entry),
-            Answer::Saw(version) => Said::Saw(version),
-            Answer::Overwrites(number) => number.say(),
-            Answer::Granted(grant) => grant.say(),
-            Answer::Dropped => Said::Done,
-            Answer::Refused(refusal) => refusal.say(),
-        }
-    }
-}
+/// A call, as a line has it.
+#[derive(Clone, Copy)]
+pub(crate) struct Asked(pub(crate) Call<u32>);
 
-/// What a result says.
-pub(crate) fn answer_of<T: Say, F: Say>(res: Result<T, F>) -> Said {
-    match res {
-        Ok(answer) => answer.say(),
-        Err(refusal) => refusal.say(),
+impl fmt::Display for Asked {
+    fn fmt<W: fmt::Write>(&self, f: &mut fmt::Formatter<W>) -> fmt::Result {
+        match self.0 {
+            Call::Begin(console) => write!(f, "begin {console}"),
+            Call::Read(console, at) => write!(f, "read {console} {at}"),
+            Call::Write(console, at, entry) => write!(f, "write {console} {at} {entry}"),
+            Call::Commit(console) => write!(f, "commit {console}"),
+            Call::Drop(console) => write!(f, "drop {console}"),
+        }
     }
 }
 
 /// Prints a call to `name`, with what it was answered.
-pub(crate) fn tell(rt: HostRuntime, name: &str, call: Call<u32>, said: Said) -> io::Result<()> {
-    match call {
-        Call::Begin(console) => println!(rt; "{name} begin {console}: {said}"),
-        Call::Read(console, at) => println!(rt; "{name} read {console} {at}: {said}"),
-        Call::Write(console, at, entry) => {
-            println!(rt; "{name} write {console} {at} {entry}: {said}")
-        }
-        Call::Commit(console) => println!(rt; "{name} commit {console}: {said}"),
-        Call::Drop(console) => println!(rt; "{name} drop {console}: {said}"),
-    }
+pub(crate) fn tell(
+    rt: HostRuntime,
+    name: &str,
+    call: Call<u32>,
+    answered: Answered,
+) -> io::Result<()> {
+    let asked = Asked(call);
+    println!(rt; "{name} {asked}: {answered}")
 }

@@ -1,9 +1,66 @@
 // What a store and a log refuse alike.
-use crate::ask::{Ask, Say};
-use crate::say::{Said, tell};
+use crate::ask::Ask;
+use crate::say::{Answered, Size, tell};
 use anyhow::anyhow;
 use certifier::Call;
 use std::io;
+
+/// A store or a log under way, and where its lines go.
+#[derive(Drop)]
+pub(crate) struct Scene<T> {
+    pub(crate) rt: HostRuntime,
+    pub(crate) table: T,
+}
+
+impl<T: Ask> Scene<T> {
+    /// A fresh one of a size that is in its ranges.
+    pub(crate) fn fresh(rt: HostRuntime, size: Size) -> anyhow::Result<Scene<T>> {
+        let table = T::fresh(rt.alloc(), size).map_err(|_| anyhow!("it does not open"))?;
+        Ok(Scene { rt, table })
+    }
+
+    /// A fresh one under a title.
+    pub(crate) fn open(rt: HostRuntime, title: &str, size: Size) -> anyhow::Result<Scene<T>> {
+        let name = T::NAME;
+        println!(rt; "# {name}, {title}: {size}")?;
+        Scene::fresh(rt, size)
+    }
+
+    /// Makes the calls in their sequence, and prints each.
+    pub(crate) fn play(&mut self, calls: &[Call<u32>]) -> io::Result<()> {
+        for call in calls {
+            let answer = self.table.ask(*call);
+            tell(self.rt, T::NAME, *call, Answered::from(answer))?;
+        }
+        Ok(())
+    }
+
+    /// Makes the call of each number below `count`, and answers how many of them were accepted.
+    pub(crate) fn accepted<F: FnMut(u32) -> Call<u32>>(&mut self, count: u32, call: F) -> usize
+        requires { (f : _) (at : _) → F.pre f at }
+    {
+        (0..count)
+            .map(call)
+            .filter(|call| self.table.ask(*call).is_ok())
+            .count()
+    }
+
+    /// Prints the clock and the size.
+    pub(crate) fn end(&self) -> anyhow::Result<()> {
+        let name = T::NAME;
+        let clock = self.table.commits();
+        let size = self.table.records();
+        println!(self.rt; "{name} clock {clock} size {size}")?;
+        Ok(())
+    }
+
+    // Plays a list of calls on a fresh one, under a title.
+    fn whole(rt: HostRuntime, title: &str, size: Size, calls: &[Call<u32>]) -> anyhow::Result<()> {
+        let mut scene: Scene<T> = Scene::open(rt, title, size)?;
+        scene.play(calls)?;
+        scene.end()
+    }
+}
 
 /// Shows a store or a log at its edges.
 pub(crate) fn show<T: Ask>(rt: HostRuntime) -> anyhow::Result<()> {
@@ -15,69 +72,27 @@ pub(crate) fn show<T: Ask>(rt: HostRuntime) -> anyhow::Result<()> {
     day::<T>(rt)
 }
 
-/// A fresh store or log, of numbers that are in their ranges.
-pub(crate) fn fresh<T: Ask>(rt: HostRuntime, size: u32, room: u32) -> anyhow::Result<T> {
-    match T::fresh(rt.alloc(), size, room, 0) {
-        Ok(table) => Ok(table),
-        Err(_) => Err(anyhow!("it does not open")),
-    }
-}
-
-/// Makes the calls in their sequence, and prints each.
-pub(crate) fn play<T: Ask>(rt: HostRuntime, table: &mut T, calls: &[Call<u32>]) -> io::Result<()> {
-    for call in calls {
-        let said = table.ask(*call);
-        tell(rt, T::NAME, *call, said)?;
-    }
-    Ok(())
-}
-
-/// Plays a list of calls on a fresh one, under a title.
-pub(crate) fn scene<T: Ask>(
-    rt: HostRuntime,
-    title: &str,
-    size: u32,
-    room: u32,
-    calls: &[Call<u32>],
-) -> anyhow::Result<()> {
-    let name = T::NAME;
-    println!(rt; "# {name}, {title}: records {size}, places {room}")?;
-    let mut table: T = fresh(rt, size, room)?;
-    play(rt, &mut table, calls)?;
-    end(rt, &table)
-}
-
-/// Prints the clock and the size.
-pub(crate) fn end<T: Ask>(rt: HostRuntime, table: &T) -> anyhow::Result<()> {
-    let name = T::NAME;
-    let clock = table.commits();
-    let size = table.records();
-    println!(rt; "{name} clock {clock} size {size}")?;
-    Ok(())
-}
-
-fn opening<T: Ask>(rt: HostRuntime, size: u32, room: u32) -> anyhow::Result<()> {
-    let name = T::NAME;
-    let said = match T::fresh(rt.alloc(), size, room, 0) {
-        Ok(table) => Said::Number(table.records()),
-        Err(fault) => fault.say(),
-    };
-    println!(rt; "{name} open {size} {room}: {said}")?;
-    Ok(())
-}
-
 // 12 outside the ranges.
-fn openings<T: Ask>(rt: HostRuntime) -> anyhow::Result<()> {
+fn openings<T: Ask>(rt: HostRuntime) -> io::Result<()> {
     let name = T::NAME;
     println!(rt; "# {name}, opening")?;
-    opening::<T>(rt, 0, 4)?;
-    opening::<T>(rt, 1, 0)?;
-    opening::<T>(rt, 1, 1)?;
-    opening::<T>(rt, 5, 4)?;
-    opening::<T>(rt, 1, 2048)?;
-    opening::<T>(rt, 1, 2049)?;
-    opening::<T>(rt, 256, 2048)?;
-    opening::<T>(rt, 257, 300)
+    let sizes = [
+        Size::new(0, 4),
+        Size::new(1, 0),
+        Size::new(1, 1),
+        Size::new(5, 4),
+        Size::new(1, 2048),
+        Size::new(1, 2049),
+        Size::new(256, 2048),
+        Size::new(257, 300),
+    ];
+    for size in sizes {
+        let Size { records, places } = size;
+        let opened = T::fresh(rt.alloc(), size);
+        let answered = Answered::from(opened.map(|table| table.records()));
+        println!(rt; "{name} open {records} {places}: {answered}")?;
+    }
+    Ok(())
 }
 
 // 1 above console 15, 4 where a console is open, 3 where it is shut.
@@ -100,7 +115,7 @@ fn consoles<T: Ask>(rt: HostRuntime) -> anyhow::Result<()> {
         Call::Drop(15),
         Call::Drop(15),
     ];
-    scene::<T>(rt, "consoles", 2, 4, &calls)
+    Scene::<T>::whole(rt, "consoles", Size::new(2, 4), &calls)
 }
 
 // 2 past the last record, which comes after 1 and 3. A console reads its own entry back.
@@ -122,7 +137,7 @@ fn records<T: Ask>(rt: HostRuntime) -> anyhow::Result<()> {
         Call::Begin(0),
         Call::Read(0, 1),
     ];
-    scene::<T>(rt, "records and own entries", 2, 4, &calls)
+    Scene::<T>::whole(rt, "records and own entries", Size::new(2, 4), &calls)
 }
 
 // 7 at another console's record, until that console drops or commits.
@@ -144,7 +159,12 @@ fn holds<T: Ask>(rt: HostRuntime) -> anyhow::Result<()> {
         Call::Read(0, 1),
         Call::Commit(0),
     ];
-    scene::<T>(rt, "records held by another console", 2, 8, &calls)
+    Scene::<T>::whole(
+        rt,
+        "records held by another console",
+        Size::new(2, 8),
+        &calls,
+    )
 }
 
 // 9 past the last place, which comes after 7. A second write to a record takes no place, and a drop gives places back.
@@ -169,7 +189,7 @@ fn places<T: Ask>(rt: HostRuntime) -> anyhow::Result<()> {
         Call::Write(1, 1, 9),
         Call::Commit(1),
     ];
-    scene::<T>(rt, "a full table", 3, 5, &calls)
+    Scene::<T>::whole(rt, "a full table", Size::new(3, 5), &calls)
 }
 
 // 8 where a later version stands than the console began with, which comes after 7 and before 9.
@@ -193,23 +213,19 @@ pub(crate) fn stale<T: Ask>(rt: HostRuntime) -> anyhow::Result<()> {
         Call::Commit(1),
         Call::Commit(0),
     ];
-    scene::<T>(rt, "stale writes", 3, 7, &calls)
-}
-
-// Begins and commits so many empty transactions.
-fn commit_some<T: Ask>(table: &mut T, count: u16) {
-    for _commit in 0..count {
-        table.ask(Call::Begin(0));
-        table.ask(Call::Commit(0));
-    }
+    Scene::<T>::whole(rt, "stale writes", Size::new(3, 7), &calls)
 }
 
 // 10 at the 4,001st commit, whose transaction stays open.
 fn day<T: Ask>(rt: HostRuntime) -> anyhow::Result<()> {
     let name = T::NAME;
-    println!(rt; "# {name}, a full day: records 1, places 2, after 3999 empty commits")?;
-    let mut table: T = fresh(rt, 1, 2)?;
-    commit_some(&mut table, 3999);
+    let size = Size::new(1, 2);
+    println!(rt; "# {name}, a full day: {size}, after 3999 empty commits")?;
+    let mut scene: Scene<T> = Scene::fresh(rt, size)?;
+    for _commit in 0..3999u32 {
+        let _ = scene.table.ask(Call::Begin(0));
+        let _ = scene.table.ask(Call::Commit(0));
+    }
     let calls = [
         Call::Begin(0),
         Call::Commit(0),
@@ -221,17 +237,6 @@ fn day<T: Ask>(rt: HostRuntime) -> anyhow::Result<()> {
         Call::Drop(0),
         Call::Commit(0),
     ];
-    play(rt, &mut table, &calls)?;
-    end(rt, &table)
-}
-
-/// Writes to the first so many records, and answers how many of the writes were accepted.
-pub(crate) fn write_some<T: Ask>(table: &mut T, console: u32, count: u32) -> u32 {
-    let mut accepted = 0u32;
-    for at in 0..count {
-        if let Said::Number(_) = table.ask(Call::Write(console, at, at)) {
-            accepted = accepted.saturating_add(1);
-        }
-    }
-    accepted
+    scene.play(&calls)?;
+    scene.end()
 }

@@ -1,34 +1,24 @@
 // A whole run: a log opened and played in one call.
-use crate::ask::Say;
-use crate::say::tell;
-use crate::scenes::end;
+use crate::say::{Answered, Size, tell};
+use crate::scenes::Scene;
 use certifier::Call;
-use runs::{Answer, run};
-use std::io;
+use runs::{Outcome, run};
 use store::Store;
 
-fn answers(rt: HostRuntime, calls: &[Call<u32>], answers: &[Answer<u32>]) -> io::Result<()> {
-    for (call, answer) in calls.iter().zip(answers.iter()) {
-        tell(rt, "run", *call, answer.say())?;
-    }
-    Ok(())
-}
-
-fn one<S: Store<u32>>(
-    rt: HostRuntime,
-    size: u32,
-    room: u32,
-    calls: &[Call<u32>],
-) -> anyhow::Result<()> {
-    println!(rt; "# run: records {size}, places {room}")?;
-    match run::<S, u32>(rt.alloc(), size, room, 0, calls) {
-        Ok(outcome) => {
-            answers(rt, calls, outcome.answers.as_slice())?;
-            end(rt, &outcome.log)
+// Plays a run of that size.
+fn one<S: Store<u32>>(rt: HostRuntime, size: Size, calls: &[Call<u32>]) -> anyhow::Result<()> {
+    println!(rt; "# run: {size}")?;
+    let Size { records, places } = size;
+    match run::<S, u32>(rt.alloc(), records, places, 0, calls) {
+        Ok(Outcome { log, answers, .. }) => {
+            for (call, answer) in calls.iter().zip(answers.iter()) {
+                tell(rt, "run", *call, Answered::from(*answer))?;
+            }
+            Scene { rt, table: log }.end()
         }
         Err(fault) => {
-            let said = fault.say();
-            println!(rt; "run open {size} {room}: {said}")?;
+            let answered = Answered(Err(fault.into()));
+            println!(rt; "run open {records} {places}: {answered}")?;
             Ok(())
         }
     }
@@ -49,6 +39,6 @@ pub(crate) fn show<S: Store<u32>>(rt: HostRuntime) -> anyhow::Result<()> {
         Call::Drop(1),
         Call::Drop(16),
     ];
-    one::<S>(rt, 2, 4, &calls)?;
-    one::<S>(rt, 0, 4, &calls)
+    one::<S>(rt, Size::new(2, 4), &calls)?;
+    one::<S>(rt, Size::new(0, 4), &calls)
 }

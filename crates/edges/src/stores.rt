@@ -1,14 +1,14 @@
 // What a store lets through that a log refuses.
 use crate::ask::Ask;
-use crate::scenes::{end, fresh, play, write_some};
+use crate::say::Size;
+use crate::scenes::Scene;
 use certifier::Call;
 
 /// Seventeen records written in one transaction.
 pub(crate) fn show<T: Ask>(rt: HostRuntime) -> anyhow::Result<()> {
-    println!(rt; "# store, many writes: records 17, places 34")?;
-    let mut table: T = fresh(rt, 17, 34)?;
-    play(rt, &mut table, &[Call::Begin(0)])?;
-    let accepted = write_some(&mut table, 0, 17);
+    let mut scene: Scene<T> = Scene::open(rt, "many writes", Size::new(17, 34))?;
+    scene.play(&[Call::Begin(0)])?;
+    let accepted = scene.accepted(17, |at| Call::Write(0, at, at));
     println!(rt; "store write 0 to 17 records: {accepted} accepted")?;
     let calls = [
         Call::Commit(0),
@@ -16,6 +16,6 @@ pub(crate) fn show<T: Ask>(rt: HostRuntime) -> anyhow::Result<()> {
         Call::Read(0, 0),
         Call::Read(0, 16),
     ];
-    play(rt, &mut table, &calls)?;
-    end(rt, &table)
+    scene.play(&calls)?;
+    scene.end()
 }

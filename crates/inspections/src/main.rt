@@ -3,240 +3,184 @@
 
 use anyhow::anyhow;
 use cards::{Card, CardRow, State};
-use certifier::{Log, LogRefusal};
+use certifier::{Grant, Log, LogRefusal};
+use std::{fmt, io};
 use store::kind::Snapshot;
-use store::{Code, Layer, OpenFault, Seen, Store};
+use store::{Code, Seen, Store};
 use versions::Versions;
 
-fn layer_name(layer: Layer) -> &'static str {
-    match layer {
-        Layer::Store => "store",
-        Layer::Certifier => "certifier",
-        Layer::Opening => "opening",
-        Layer::Card => "card",
-        Layer::Sheet => "sheet",
-        Layer::File => "file",
-    }
-}
+// The day on which the cards are booked.
+const TODAY: u16 = 12;
 
-fn state_name(state: State) -> &'static str {
-    match state {
-        State::Due => "due",
-        State::Passed => "passed",
-        State::Failed => "failed",
-    }
-}
-
-fn refuse(rt: &HostRuntime, what: &str, code: Code) -> anyhow::Result<()> {
-    let number = code.number;
-    let layer = layer_name(code.layer);
-    println!(rt; "{what}: no {number}, from the {layer}")?;
-    Ok(())
-}
-
-fn refuse_call(
-    rt: &HostRuntime,
-    what: &str,
-    console: u32,
-    refusal: LogRefusal,
-) -> anyhow::Result<()> {
-    print!(rt; "console {console} ")?;
-    refuse(rt, what, refusal.code())
-}
-
-fn show(rt: &HostRuntime, row: CardRow) -> anyhow::Result<()> {
-    let state = state_name(row.state);
-    let day = row.day;
-    let inspector = row.inspector;
-    println!(rt; "{state}, day {day}, inspector {inspector}")?;
-    Ok(())
-}
-
-fn begin<S: Store<CardRow>>(
-    rt: &HostRuntime,
-    log: &mut Log<S, CardRow>,
-    console: u32,
-) -> anyhow::Result<()> {
-    match log.begin(console) {
-        Ok(stamp) => println!(rt; "console {console} begin: at {stamp}")?,
-        Err(e) => refuse_call(rt, "begin", console, e)?,
-    }
-    Ok(())
-}
-
-fn read<S: Store<CardRow>>(
-    rt: &HostRuntime,
-    log: &mut Log<S, CardRow>,
-    console: u32,
-    at: u32,
-) -> anyhow::Result<()> {
-    match log.read(console, at) {
-        Ok(Seen::Own(row)) => {
-            print!(rt; "console {console} read {at}: own, ")?;
-            show(rt, row)
-        }
-        Ok(Seen::Committed(version)) => {
-            let number = version.number;
-            print!(rt; "console {console} read {at}: version {number}, ")?;
-            show(rt, version.entry)
-        }
-        Err(e) => refuse_call(rt, "read", console, e),
-    }
-}
-
-// Makes the card, and only then asks the log to take its row.
-fn book<S: Store<CardRow>>(
-    rt: &HostRuntime,
-    log: &mut Log<S, CardRow>,
-    console: u32,
-    at: u32,
-    row: CardRow,
-) -> anyhow::Result<()> {
-    let card = match Card::new(row) {
-        Ok(card) => card,
-        Err(e) => return refuse(rt, "card", e.code()),
-    };
-    match log.write(console, at, card.row()) {
-        Ok(version) => println!(rt; "console {console} write {at}: over version {version}")?,
-        Err(e) => refuse_call(rt, "write", console, e)?,
-    }
-    Ok(())
-}
-
-fn commit<S: Store<CardRow>>(
-    rt: &HostRuntime,
-    log: &mut Log<S, CardRow>,
-    console: u32,
-) -> anyhow::Result<()> {
-    match log.commit(console) {
-        Ok(grant) => {
-            let stamp = grant.stamp;
-            let low = grant.low;
-            let high = grant.high;
-            println!(rt; "console {console} commit: {stamp}, low {low}, high {high}")?;
-        }
-        Err(e) => refuse_call(rt, "commit", console, e)?,
-    }
-    Ok(())
-}
-
-fn give_up<S: Store<CardRow>>(
-    rt: &HostRuntime,
-    log: &mut Log<S, CardRow>,
-    console: u32,
-) -> anyhow::Result<()> {
-    match log.drop(console) {
-        Ok(()) => println!(rt; "console {console} drop: done")?,
-        Err(e) => refuse_call(rt, "drop", console, e)?,
-    }
-    Ok(())
-}
-
-fn passed(inspector: u16) -> CardRow {
+// A row of today.
+fn today(state: State, inspector: u16) -> CardRow {
     CardRow {
-        state: State::Passed,
-        day: 12,
+        state,
+        day: TODAY,
         inspector,
     }
 }
 
-fn failed(inspector: u16) -> CardRow {
-    CardRow {
-        state: State::Failed,
-        day: 12,
-        inspector,
-    }
+/// The inspectors' desk: a log of card rows, and where it prints what happens.
+#[derive(Drop)]
+struct Desk<S> {
+    rt: HostRuntime,
+    log: Log<S, CardRow>,
 }
 
-// One inspection after another, with what the checks turn away.
-fn morning<S: Store<CardRow>>(rt: &HostRuntime, log: &mut Log<S, CardRow>) -> anyhow::Result<()> {
-    read(rt, log, 0, 0)?;
-    begin(rt, log, 16)?;
-    begin(rt, log, 0)?;
-    begin(rt, log, 0)?;
-    begin(rt, log, 1)?;
-    read(rt, log, 0, 0)?;
-    read(rt, log, 0, 4)?;
-    book(
-        rt,
-        log,
-        0,
-        0,
-        CardRow {
+impl<S: Store<CardRow>> Desk<S> {
+    // A desk with four cards that are due, and room for eight versions.
+    fn open(rt: HostRuntime) -> anyhow::Result<Desk<S>> {
+        let due = CardRow {
             state: State::Due,
-            day: 12,
-            inspector: 7,
-        },
-    )?;
-    book(rt, log, 0, 0, passed(0))?;
-    book(rt, log, 0, 0, passed(7))?;
-    read(rt, log, 0, 0)?;
-    book(rt, log, 1, 0, failed(8))?;
-    commit(rt, log, 0)?;
-    read(rt, log, 1, 0)?;
-    book(rt, log, 1, 0, failed(8))?;
-    give_up(rt, log, 1)
-}
-
-// Two consoles each read both of two cards and write the one that the other only read.
-fn noon<S: Store<CardRow>>(rt: &HostRuntime, log: &mut Log<S, CardRow>) -> anyhow::Result<()> {
-    begin(rt, log, 2)?;
-    begin(rt, log, 3)?;
-    read(rt, log, 2, 2)?;
-    read(rt, log, 2, 3)?;
-    read(rt, log, 3, 2)?;
-    read(rt, log, 3, 3)?;
-    book(rt, log, 2, 2, passed(7))?;
-    book(rt, log, 3, 3, passed(8))?;
-    commit(rt, log, 2)?;
-    commit(rt, log, 3)?;
-    commit(rt, log, 3)
-}
-
-// The table fills.
-fn evening<S: Store<CardRow>>(rt: &HostRuntime, log: &mut Log<S, CardRow>) -> anyhow::Result<()> {
-    begin(rt, log, 4)?;
-    book(rt, log, 4, 1, failed(9))?;
-    book(rt, log, 4, 3, failed(9))?;
-    book(rt, log, 4, 0, failed(9))?;
-    commit(rt, log, 4)
-}
-
-// The first `count` stamps of a list.
-fn stamps(rt: &HostRuntime, count: u16, list: &[u32]) -> anyhow::Result<()> {
-    print!(rt; "order of {count}:")?;
-    for stamp in list.iter().take(usize::from(count)) {
-        print!(rt; " {stamp}")?;
+            day: 0,
+            inspector: 0,
+        };
+        let log = Log::open(rt.alloc(), 4, 8, due).map_err(|_| anyhow!("no log"))?;
+        Ok(Desk { rt, log })
     }
-    println!(rt; "")?;
-    Ok(())
-}
 
-fn order<S: Store<CardRow>>(rt: &HostRuntime, log: &Log<S, CardRow>) -> anyhow::Result<()> {
-    let mut list = [0u32; 4];
-    match log.order(&mut list) {
-        Ok(count) => stamps(rt, count, &list),
-        Err(e) => refuse(rt, "order", e.code()),
+    fn refuse(&self, what: impl fmt::Display + Drop, code: Code) -> io::Result<()> {
+        let Code { number, layer } = code;
+        println!(self.rt; "{what}: no {number}, from the {layer}")
+    }
+
+    fn refuse_call(&self, console: u32, call: &str, refusal: LogRefusal) -> io::Result<()> {
+        self.refuse(format_args!("console {console} {call}"), refusal.code())
+    }
+
+    fn show(&self, row: CardRow) -> io::Result<()> {
+        let CardRow {
+            state,
+            day,
+            inspector,
+        } = row;
+        println!(self.rt; "{state}, day {day}, inspector {inspector}")
+    }
+
+    fn begin(&mut self, console: u32) -> io::Result<()> {
+        match self.log.begin(console) {
+            Ok(stamp) => println!(self.rt; "console {console} begin: at {stamp}"),
+            Err(e) => self.refuse_call(console, "begin", e),
+        }
+    }
+
+    fn read(&mut self, console: u32, at: u32) -> io::Result<()> {
+        match self.log.read(console, at) {
+            Ok(Seen::Own(row)) => {
+                print!(self.rt; "console {console} read {at}: own, ")?;
+                self.show(row)
+            }
+            Ok(Seen::Committed(version)) => {
+                let number = version.number;
+                print!(self.rt; "console {console} read {at}: version {number}, ")?;
+                self.show(version.entry)
+            }
+            Err(e) => self.refuse_call(console, "read", e),
+        }
+    }
+
+    // Makes the card, and only then asks the log to take its row.
+    fn book(&mut self, console: u32, at: u32, row: CardRow) -> io::Result<()> {
+        match Card::new(row) {
+            Ok(card) => self.write(console, at, card.row()),
+            Err(e) => self.refuse("card", e.code()),
+        }
+    }
+
+    fn write(&mut self, console: u32, at: u32, row: CardRow) -> io::Result<()> {
+        match self.log.write(console, at, row) {
+            Ok(version) => println!(self.rt;
+                "console {console} write {at}: over version {version}"
+            ),
+            Err(e) => self.refuse_call(console, "write", e),
+        }
+    }
+
+    fn commit(&mut self, console: u32) -> io::Result<()> {
+        match self.log.commit(console) {
+            Ok(Grant { stamp, low, high }) => {
+                println!(self.rt; "console {console} commit: {stamp}, low {low}, high {high}")
+            }
+            Err(e) => self.refuse_call(console, "commit", e),
+        }
+    }
+
+    fn give_up(&mut self, console: u32) -> io::Result<()> {
+        match self.log.drop(console) {
+            Ok(()) => println!(self.rt; "console {console} drop: done"),
+            Err(e) => self.refuse_call(console, "drop", e),
+        }
+    }
+
+    // One inspection after another, with what the checks turn away.
+    fn morning(&mut self) -> io::Result<()> {
+        self.read(0, 0)?;
+        self.begin(16)?;
+        self.begin(0)?;
+        self.begin(0)?;
+        self.begin(1)?;
+        self.read(0, 0)?;
+        self.read(0, 4)?;
+        self.book(0, 0, today(State::Due, 7))?;
+        self.book(0, 0, today(State::Passed, 0))?;
+        self.book(0, 0, today(State::Passed, 7))?;
+        self.read(0, 0)?;
+        self.book(1, 0, today(State::Failed, 8))?;
+        self.commit(0)?;
+        self.read(1, 0)?;
+        self.book(1, 0, today(State::Failed, 8))?;
+        self.give_up(1)
+    }
+
+    // Two consoles each read both of two cards and write the one that the other only read.
+    fn noon(&mut self) -> io::Result<()> {
+        self.begin(2)?;
+        self.begin(3)?;
+        self.read(2, 2)?;
+        self.read(2, 3)?;
+        self.read(3, 2)?;
+        self.read(3, 3)?;
+        self.book(2, 2, today(State::Passed, 7))?;
+        self.book(3, 3, today(State::Passed, 8))?;
+        self.commit(2)?;
+        self.commit(3)?;
+        self.commit(3)
+    }
+
+    // The table fills.
+    fn evening(&mut self) -> io::Result<()> {
+        self.begin(4)?;
+        self.book(4, 1, today(State::Failed, 9))?;
+        self.book(4, 3, today(State::Failed, 9))?;
+        self.book(4, 0, today(State::Failed, 9))?;
+        self.commit(4)
+    }
+
+    // The commits by rank.
+    fn order(&self) -> io::Result<()> {
+        let mut list = [0u32; 4];
+        match self.log.order(&mut list) {
+            Ok(count) => self.stamps(count, &list),
+            Err(e) => self.refuse("order", e.code()),
+        }
+    }
+
+    // The first `count` stamps of a list.
+    fn stamps(&self, count: u16, list: &[u32]) -> io::Result<()> {
+        print!(self.rt; "order of {count}:")?;
+        for stamp in list.iter().take(usize::from(count)) {
+            print!(self.rt; " {stamp}")?;
+        }
+        println!(self.rt; "")
     }
 }
 
 fn main(rt: HostRuntime) -> anyhow::Result<()> {
-    let due = CardRow {
-        state: State::Due,
-        day: 0,
-        inspector: 0,
-    };
-    let opened: Result<Log<Versions<CardRow, Snapshot>, CardRow>, OpenFault> = Log::open(
-        rt.alloc(),
-        4,
-        8,
-        due,
-    );
-    let Ok(mut log) = opened else {
-        return Err(anyhow!("no log"));
-    };
-    morning(&rt, &mut log)?;
-    noon(&rt, &mut log)?;
-    evening(&rt, &mut log)?;
-    order(&rt, &log)
+    let mut desk: Desk<Versions<CardRow, Snapshot>> = Desk::open(rt)?;
+    desk.morning()?;
+    desk.noon()?;
+    desk.evening()?;
+    desk.order()?;
+    Ok(())
 }

@@ -1,108 +1,118 @@
 // The consoles at work, and what the planner counts beside the log.
-use crate::dice::Dice;
-use crate::job::{Job, Task, draw};
-use certifier::{Call, Grant, Log, LogRefusal};
+use crate::job::{Job, TRAINS, Task};
+use anyhow::anyhow;
+use certifier::{Accepted, Log, LogRefusal};
+use dice::Dice;
+use std::alloc::{AllocError, Global};
+use std::collections::BTreeMap;
 use store::{Seen, Store};
 
 /// The jobs of a day.
 pub(crate) const JOBS: u32 = 1200;
 
-/// What a console hears.
-enum Heard {
-    Accepted,
-    Count(u32),
-    Granted(Grant),
-    Refused(LogRefusal),
+// The log's places for versions.
+const ROOM: u32 = 2048;
+
+/// How often a refusal came.
+#[derive(Clone, Copy)]
+pub(crate) struct Refused {
+    pub(crate) refusal: LogRefusal,
+    pub(crate) times: u32,
 }
 
 /// A day under way.
 #[derive(Drop)]
-pub(crate) struct Day {
+pub(crate) struct Day<S> {
+    pub(crate) log: Log<S, u32>,
+    dice: Dice,
+    /// what each console is at
     tasks: [Option<Task>; 16],
     /// the jobs that no console has yet
     waiting: u32,
     /// the planner's plain counters, by train
-    pub(crate) cycles: [u32; 8],
+    pub(crate) cycles: [u32; TRAINS as usize],
     pub(crate) granted: u32,
     /// the refusals by their number
-    pub(crate) refused: [u32; 16],
+    pub(crate) refused: BTreeMap<u32, Refused>,
 }
 
-impl Day {
-    pub(crate) fn new() -> Day {
-        Day {
+/// The count that a read shows.
+pub(crate) fn count_of(seen: Seen<u32>) -> u32 {
+    match seen {
+        Seen::Own(count) => count,
+        Seen::Committed(version) => version.entry,
+    }
+}
+
+impl<S: Store<u32>> Day<S> {
+    /// A day on a fresh log, before its first call.
+    pub(crate) fn open(heap: Global) -> anyhow::Result<Day<S>> {
+        Ok(Day {
+            log: Log::open(heap, TRAINS, ROOM, 0).map_err(|_| anyhow!("no log"))?,
+            dice: Dice::new(7),
             tasks: [None; 16],
             waiting: JOBS,
-            cycles: [0; 8],
+            cycles: [0; TRAINS as usize],
             granted: 0,
-            refused: [0; 16],
-        }
+            refused: BTreeMap::new(heap),
+        })
     }
 
-    /// The console makes the next call of its job, or takes a job where it has none.
-    pub(crate) fn turn<S: Store<u32>>(
-        &mut self,
-        log: &mut Log<S, u32>,
-        console: u32,
-        dice: &mut Dice,
-    ) {
-        let place = (console % 16) as usize;
+    /// A console makes the next call of its job, or takes a job where it has none.
+    pub(crate) fn turn(&mut self) -> Result<(), AllocError> {
+        let console = self.dice.below(16);
+        let place = console as usize;
         self.tasks[place] = match self.tasks[place] {
-            Some(task) => {
-                let heard = ask(log, task.call(console));
-                self.hear(log, console, task, heard)
-            }
-            None => self.take(dice),
+            Some(task) => self.work(console, task)?,
+            None => self.take(),
         };
+        Ok(())
     }
 
-    fn take(&mut self, dice: &mut Dice) -> Option<Task> {
-        if self.waiting == 0 {
-            return None;
-        }
-        self.waiting -= 1;
-        Some(Task::new(draw(dice)))
+    // The next job, while there is one.
+    fn take(&mut self) -> Option<Task> {
+        self.waiting = self.waiting.checked_sub(1)?;
+        Some(Task::new(Job::draw(&mut self.dice)))
     }
 
-    // What becomes of the task by what its call was answered. A refused one begins again.
-    fn hear<S: Store<u32>>(
-        &mut self,
-        log: &mut Log<S, u32>,
-        console: u32,
-        task: Task,
-        heard: Heard,
-    ) -> Option<Task> {
-        let mut next = task;
-        next.step = task.step.wrapping_add(1);
-        match heard {
-            Heard::Accepted => {}
-            Heard::Count(count) => {
-                next.before = task.last;
-                next.last = count;
-            }
-            Heard::Granted(_) => {
-                self.book(&task);
-                return None;
-            }
-            Heard::Refused(refusal) => {
-                self.refuse(refusal);
+    // Makes the task's call. A refused task begins again.
+    fn work(&mut self, console: u32, task: Task) -> Result<Option<Task>, AllocError> {
+        match self.log.call(task.call(console)) {
+            Ok(accepted) => Ok(self.go_on(task, accepted)),
+            Err(refusal) => {
+                self.refuse(refusal)?;
                 // The log has dropped an unsafe transaction already, and then says that nothing is open.
-                let _ = log.drop(console);
-                return Some(Task::new(task.job));
+                let _ = self.log.drop(console);
+                Ok(Some(Task::new(task.job)))
             }
         }
-        Some(next)
     }
 
-    fn refuse(&mut self, refusal: LogRefusal) {
-        let number = refusal.code().number as usize;
-        if number < 16 {
-            self.refused[number] = self.refused[number].wrapping_add(1);
+    // What becomes of the task by what its call was answered. The day file's entry of a commit belongs here: before it
+    // `log.noted(console)` and `log.overwritten(console, ..)` tell the versions that it keeps, and the grant tells the
+    // low mark.
+    fn go_on(&mut self, task: Task, accepted: Accepted<u32>) -> Option<Task> {
+        match accepted {
+            Accepted::Seen(seen) => Some(task.read(count_of(seen))),
+            Accepted::Granted(_) => {
+                self.book(&task);
+                None
+            }
+            Accepted::Begun(_) | Accepted::Overwrites(_) | Accepted::Dropped => Some(
+                task.stepped(),
+            ),
         }
+    }
+
+    fn refuse(&mut self, refusal: LogRefusal) -> Result<(), AllocError> {
+        let first = Refused { refusal, times: 0 };
+        let refused = self.refused.entry(refusal.code().number)?.or_insert(first);
+        refused.times = refused.times.wrapping_add(1);
+        Ok(())
     }
 
     fn add(&mut self, train: u32, cycles: u32) {
-        let place = (train % 8) as usize;
+        let place = (train % TRAINS) as usize;
         self.cycles[place] = self.cycles[place].wrapping_add(cycles);
     }
 
@@ -112,47 +122,10 @@ impl Day {
         match task.job {
             Job::Dispatch(train) => self.add(train, 1),
             Job::Transfer(from, to) => {
-                self.add(from, 0u32.wrapping_sub(task.moved()));
+                self.add(from, task.moved().wrapping_neg());
                 self.add(to, task.moved());
             }
             Job::Audit => {}
         }
-    }
-}
-
-// Makes the call.
-fn ask<S: Store<u32>>(log: &mut Log<S, u32>, call: Call<u32>) -> Heard {
-    let heard = match call {
-        Call::Begin(console) => match log.begin(console) {
-            Ok(_) => Ok(Heard::Accepted),
-            Err(e) => Err(e),
-        },
-        Call::Read(console, at) => match log.read(console, at) {
-            Ok(Seen::Own(count)) => Ok(Heard::Count(count)),
-            Ok(Seen::Committed(version)) => Ok(Heard::Count(version.entry)),
-            Err(e) => Err(e),
-        },
-        Call::Write(console, at, count) => match log.write(console, at, count) {
-            Ok(_) => Ok(Heard::Accepted),
-            Err(e) => Err(e),
-        },
-        Call::Commit(console) => commit(log, console),
-        Call::Drop(console) => match log.drop(console) {
-            Ok(()) => Ok(Heard::Accepted),
-            Err(e) => Err(e),
-        },
-    };
-    match heard {
-        Ok(heard) => heard,
-        Err(refusal) => Heard::Refused(refusal),
-    }
-}
-
-// Asks for the commit. The day file's entry belongs here: before the commit `log.noted(console)` and
-// `log.overwritten(console, ..)` tell the versions that it keeps, and the grant tells the low mark.
-fn commit<S: Store<u32>>(log: &mut Log<S, u32>, console: u32) -> Result<Heard, LogRefusal> {
-    match log.commit(console) {
-        Ok(grant) => Ok(Heard::Granted(grant)),
-        Err(e) => Err(e),
     }
 }

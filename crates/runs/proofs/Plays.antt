@@ -1,13 +1,15 @@
 -- Calls of a run one after another: what holds amid them, and what one call more and the last one make of it.
-use Rattle.std.proofs.Common.{◌≡◌, ℕ, ◌+◌, ◌<◌, ◌≤◌, List, [], ◌∷◌, ◌++◌, length, get_or, drop, sym, ap, ◌∙◌, append_assoc}
+use Rattle.std.proofs.Common.{◌≡◌, ℕ, ◌+◌, ◌<◌, ◌≤◌, List, [], ◌∷◌, ◌++◌, length, get_or, drop, Result, sym, ap, ◌∙◌, append_assoc}
 use Rattle.std.proofs.lemmas.List.{drop_more, drop_all, append-nil, map_push}
 use Rattle.store.specs.Meaning.{Rules}
 use Rattle.certifier.specs.declared.Call.{Call}
 use Rattle.certifier.specs.Marking.{Track}
 use Rattle.certifier.specs.Meaning.{LogState, Reply, step, answers_of, after}
 use Rattle.certifier.specs.Entries.{Entry}
-use Rattle.runs.specs.declared.Answer.{Answer}
-use Rattle.runs.specs.Outcomes.{reply_of, replies_of, entry_for, track_for, filed_in, Plays}
+use Rattle.certifier.specs.declared.Accepted.{Accepted}
+use Rattle.certifier.specs.declared.LogRefusal.{LogRefusal}
+use Rattle.certifier.specs.Logs.{reply_of}
+use Rattle.runs.specs.Outcomes.{replies_of, entry_for, track_for, filed_in, Plays}
 
 module _ {E : Type 0} (rules : Rules) (s s' : LogState E) (calls : List (Call E)) (i : ℕ) where
   answers_turn : (a : Reply E) (given zs : List (Reply E)) (d : Call E) → i < length calls → (a, s') ≡ step rules s (get_or calls i d)
@@ -48,7 +50,7 @@ module _ {E : Type 0} (rules : Rules) (start : LogState E) (calls : List (Call E
       × (after rules s (drop i calls) ≡ after rules start calls)
       × (es ++ filed_in rules s (drop i calls) ≡ filed_in rules start calls)
 
-  pub turn : (s s' : LogState E) (i : ℕ) (d : Call E) (a : Answer E) (t : Track) (before more : List (Answer E)) (es fs : List Entry)
+  pub turn : (s s' : LogState E) (i : ℕ) (d : Call E) (a : Result (Accepted E) LogRefusal) (t : Track) (before more : List (Result (Accepted E) LogRefusal)) (es fs : List Entry)
       → i < length calls → d ≡ get_or calls i d → (reply_of a, s') ≡ step rules s d → t ≡ track_for s d
       → more ≡ before ++ (a ∷ []) → fs ≡ es ++ entry_for d (reply_of a) t → Amid s i (replies_of before) es → Amid s' (i + 1) (replies_of more) fs
   turn s s' i d a t before more es fs lt at e told pushed kept h =

@@ -1,34 +1,23 @@
--- What a run answers, what is kept of its commits, and what each case of its answers stands for.
+-- What a run answers, and what is kept of its commits.
 use Rattle.std.specs.Prelude.{◌≡◌, ℕ, ◌%◌, List, [], ◌∷◌, ◌++◌, map, Ok, Err, vec_items, Result}
 use Rattle.store.specs.declared.OpenFault.{OpenFault}
 use Rattle.store.specs.Refusals.{open_code}
 use Rattle.store.specs.Meaning.{Rules, State, Range, Unopened}
+use Rattle.certifier.specs.declared.Accepted.{Accepted}
+use Rattle.certifier.specs.declared.LogRefusal.{LogRefusal}
 use Rattle.certifier.specs.declared.Call.{Call}
 use Rattle.certifier.specs.declared.Call.TheVariants.{Begin, Read, Write, Commit, Drop}
-use Rattle.certifier.specs.Refusals.{code_of}
 use Rattle.certifier.specs.Marking.{Track, no_track}
 use Rattle.certifier.specs.Meaning.{LogState, Reply, track_at, opened, step, answers_of, after}
 use Rattle.certifier.specs.Meaning.Reply.{begun, own, saw, overwrites, granted, dropped, refused}
 use Rattle.certifier.specs.Entries.{Entry, entry_at, entry_by}
-use Rattle.certifier.specs.Logs.{log_state}
-use Rattle.runs.specs.declared.Answer as code_answer
-use Rattle.runs.specs.declared.Answer.TheVariants as case
+use Rattle.certifier.specs.Logs.{log_state, reply_of}
 use Rattle.runs.specs.declared.Outcome.{Outcome}
 use Rattle.runs.specs.History.{history_of, summary_of, entries_in}
 use Rattle.runs.specs.Law.{Lawful}
 
 module _ {E : Type 0} where
-  -- an answer of a run
-  abbrev pub reply_of : code_answer.Answer E → Reply E
-  reply_of (case.Begun b) = begun b
-  reply_of (case.Own e) = own e
-  reply_of (case.Saw v) = saw v
-  reply_of (case.Overwrites n) = overwrites n
-  reply_of (case.Granted g) = granted g
-  reply_of case.Dropped = dropped
-  reply_of (case.Refused e) = refused (code_of e)
-
-  abbrev pub replies_of : List (code_answer.Answer E) → List (Reply E)
+  abbrev pub replies_of : List (Result (Accepted E) LogRefusal) → List (Reply E)
   replies_of xs = map reply_of xs
 
   -- a commit's entry, where it was granted

@@ -2,31 +2,15 @@
 #![tactic(auto)]
 
 ghost use Rattle.std.specs.Prelude.{◌≡◌, ◌++◌, map, IfOk, OnOk};
-ghost use Rattle.std.specs.Option.{option_map, option_to_list};
-ghost use Rattle.certifier.specs.Meaning.{step};
+ghost use Rattle.std.specs.Option.{option_to_list};
 ghost use Rattle.certifier.specs.Entries.{track_of, entry_by};
-ghost use Rattle.runs.specs.Outcomes.{entry_for, track_for, reply_of, replies_of, Plays, Runs};
-ghost use Rattle.certifier.specs.Logs.{log_state};
+ghost use Rattle.certifier.specs.Logs.{log_state, reply_of};
+ghost use Rattle.runs.specs.Outcomes.{entry_for, track_for, replies_of, Plays, Runs};
 
-use certifier::{Call, DayEntry, Grant, Log, LogRefusal, Track};
+use certifier::{Call, DayEntry, Log, Track};
+pub use certifier::{Accepted, Answer};
 use std::alloc::{AllocError, Global};
-use store::{OpenFault, Seen, Store, Version};
-
-/// What a call of a run is answered.
-#[derive(Clone, Copy)]
-pub enum Answer<E> {
-    /// the begin stamp
-    Begun(u16),
-    /// the console's own pending entry
-    Own(E),
-    /// a committed version
-    Saw(Version<E>),
-    /// the number of the version that the write will overwrite
-    Overwrites(u32),
-    Granted(Grant),
-    Dropped,
-    Refused(LogRefusal),
-}
+use store::{OpenFault, Store};
 
 /// A log, what it answered to the calls that were played on it since its opening, and what a day file keeps of its
 /// commits, in their order.
@@ -46,59 +30,15 @@ struct Played<E> {
 
 // What is kept of a call with this answer, which found its transaction at this track.
 fn entry_for<E: Copy>(call: &Call<E>, answer: &Answer<E>, track: Track) -> Option<DayEntry>
-    ensures { option_to_list (option_map entry_by result) ≡ entry_for call.now (reply_of answer.now) (track_of track) }
+    ensures { map entry_by (option_to_list result) ≡ entry_for call.now (reply_of answer.now) (track_of track) }
 {
     match (call, answer) {
-        (Call::Commit(console), Answer::Granted(grant)) => Some(DayEntry {
+        (Call::Commit(console), Ok(Accepted::Granted(grant))) => Some(DayEntry {
             console: *console,
             low: grant.low,
             track,
         }),
         _ => None,
-    }
-}
-
-// Adds what is kept of a call.
-fn keep<E: Copy>(
-    entries: &mut Vec<DayEntry>,
-    call: &Call<E>,
-    answer: &Answer<E>,
-    track: Track,
-) -> Result<(), AllocError>
-    ensures { OnOk result (map entry_by entries.new.items ≡ map entry_by entries.old.items ++ entry_for call.now (reply_of answer.now) (track_of track)) }
-{
-    if let Some(entry) = entry_for(call, answer, track) {
-        entries.push(entry)?;
-    }
-    Ok(())
-}
-
-// Makes one call, and answers what it answered.
-fn apply<S: Store<E>, E: Copy>(log: &mut Log<S, E>, call: Call<E>) -> Answer<E>
-    ensures { (reply_of result, log_state S.Store.state log.new) ≡ step S.Store.rules (log_state S.Store.state log.old) call }
-{
-    match call {
-        Call::Begin(console) => match log.begin(console) {
-            Ok(stamp) => Answer::Begun(stamp),
-            Err(e) => Answer::Refused(e),
-        },
-        Call::Read(console, at) => match log.read(console, at) {
-            Ok(Seen::Own(entry)) => Answer::Own(entry),
-            Ok(Seen::Committed(version)) => Answer::Saw(version),
-            Err(e) => Answer::Refused(e),
-        },
-        Call::Write(console, at, entry) => match log.write(console, at, entry) {
-            Ok(version) => Answer::Overwrites(version),
-            Err(e) => Answer::Refused(e),
-        },
-        Call::Commit(console) => match log.commit(console) {
-            Ok(grant) => Answer::Granted(grant),
-            Err(e) => Answer::Refused(e),
-        },
-        Call::Drop(console) => match log.drop(console) {
-            Ok(()) => Answer::Dropped,
-            Err(e) => Answer::Refused(e),
-        },
     }
 }
 
@@ -124,8 +64,8 @@ fn play<S: Store<E>, E: Copy>(
     let mut entries = Vec::new(heap);
     for call in calls {
         let track = track_for(log, call);
-        let answer = apply(log, *call);
-        keep(&mut entries, call, &answer, track)?;
+        let answer = log.call(*call);
+        entries.extend(entry_for(call, &answer, track))?;
         answers.push(answer)?;
     }
     Ok(Played { answers, entries })
@@ -142,8 +82,7 @@ pub fn run<S: Store<E>, E: Copy>(
     ensures { Runs S.Store.rules S.Store.state size room first calls.now result }
 {
     let mut log: Log<S, E> = Log::open(heap, size, room, first)?;
-    let played = play(&mut log, heap, calls)?;
-    let Played { answers, entries } = played;
+    let Played { answers, entries } = play(&mut log, heap, calls)?;
     Ok(Outcome {
         log,
         answers,

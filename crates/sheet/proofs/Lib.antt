@@ -1,5 +1,7 @@
+pub mod Lines
 pub mod Numbers
-pub mod Pieces
-pub mod Untils
 pub mod Ranked
+pub mod Spelled
 pub mod Stretching
+pub mod Untils
+pub mod Words

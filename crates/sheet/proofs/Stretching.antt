@@ -1,5 +1,6 @@
 -- Stretches of lines, played on one log, print what the lines print one by one.
 use Rattle.std.proofs.Common.{◌≡◌, ℕ, Bool, true, false, cond, List, [], ◌∷◌, ◌++◌, map, is_some, Some, None, Ok, Err, Option, sym, refl, ap, ◌∙◌, subst, ap₂, append_assoc, append-nil, arith}
+use Rattle.std.specs.List.{filter_map, cons_option}
 use Rattle.std.specs.Option.{option_map}
 use Rattle.store.specs.Meaning.{Rules}
 use Rattle.store.specs.Refusals.{bad_table}
@@ -12,7 +13,7 @@ use Rattle.sheet.specs.declared.request.Request.TheVariants.{Open, Call}
 use Rattle.sheet.specs.declared.response.Success.TheVariants.{Done}
 use Rattle.sheet.specs.Answers.{Item, Response, OpenLog, Log, rules_of, fresh, after_call, replied, accepted, answered, responses_of, log_after}
 use Rattle.sheet.specs.Faults.{no_log, passed}
-use Rattle.sheet.specs.Stretches.{Final, final_of, sizes_of, Opens, until_open, from_open, calls_in, beside}
+use Rattle.sheet.specs.Stretches.{Final, final_of, sizes_of, Opens, until_open, from_open, call_in, calls_in, beside}
 use Rattle.sheet.specs.Printing.{stamps_by_rank}
 use Rattle.sheet.proofs.Untils.{calm, until_from}
 
@@ -127,3 +128,8 @@ module _ (is front back : List Item) (f : front ≡ until_open is) (b : back ≡
 
     pub turn_log : log_after s all ≡ log_after (log_after (Some (fresh (rules_of k) r l)) front) back
     turn_log = ap (log_after s) o.0 ∙ ap (λ t. log_after (answer t).1 is) o.1 ∙ split_log (Some (fresh (rules_of k) r l))
+
+-- the calls of lines, as the code finds them
+pub calls_found : {X : Type 0} (g : X → Item) (xs : List X) → calls_in (map g xs) ≡ filter_map (λ x. call_in (g x)) xs
+calls_found g [] = refl
+calls_found g (x ∷ xs) = ap (cons_option (call_in (g x))) (calls_found g xs)

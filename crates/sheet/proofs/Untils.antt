@@ -1,20 +1,21 @@
 -- The lines before an accepted open, and those from it on.
-use Rattle.std.proofs.Common.{◌≡◌, ℕ, ◌+◌, ◌<◌, ◌≤◌, Bool, true, false, cond, List, [], ◌∷◌, ◌++◌, map, length, get_or, take, drop, is_some, None, Ok, Result, sym, refl, ap, ◌∙◌, arith}
-use Rattle.std.proofs.lemmas.List.{at_drop_more}
+use Rattle.std.proofs.Common.{◌≡◌, ◌+◌, ◌≤◌, Bool, true, false, not, cond, List, [], ◌∷◌, ◌++◌, map, length, take, drop, is_some, Result, sym, refl, ap, ◌∙◌, arith}
+use Rattle.std.specs.List.{position_or_len}
 use Rattle.sheet.specs.declared.fault.Fault.{Fault}
 use Rattle.sheet.specs.declared.request.Request.{Request}
-use Rattle.sheet.specs.declared.request.LogKind.TheVariants.{Newest}
-use Rattle.sheet.specs.declared.request.Request.TheVariants.{Open}
 use Rattle.sheet.specs.Answers.{Item}
 use Rattle.sheet.specs.Faults.{told}
-use Rattle.sheet.specs.Stretches.{sizes_of, opening, until_open, from_open}
+use Rattle.sheet.specs.Stretches.{sizes_of, until_open, from_open}
 
--- how far the until_open lines go, from a place on: one more, or none
-pub until_at : (items : List (Result Request Fault)) (i : ℕ) (b : Bool) → i < length items → b ≡ is_some (sizes_of (told (get_or items i (Ok (Open 0 0 Newest)))))
-    → length (until_open (map told (drop i items))) ≡ length (cond b [] (told (get_or items i (Ok (Open 0 0 Newest))) ∷ until_open (map told (drop (i + 1) items))))
-until_at items i b h e =
-    at_drop_more (λ l. length (until_open (map told l))) items i (Ok (Open 0 0 Newest)) h
-    ∙ ap (λ t. length (cond {A = List Item} t [] (told (get_or items i (Ok (Open 0 0 Newest))) ∷ until_open (map told (drop (i + 1) items))))) (sym e)
+-- how many they are, as the place of the first accepted open
+pub until_place : (items : List (Result Request Fault)) → length (until_open (map told items)) ≡ position_or_len (λ x. is_some (sizes_of (told x))) items
+until_place [] = refl
+until_place (i ∷ is) = go (is_some (sizes_of (told i))) (until_place is)
+  where
+    go : (t : Bool) → length (until_open (map told is)) ≡ position_or_len (λ x. is_some (sizes_of (told x))) is
+        → length (cond {A = List Item} t [] (told i ∷ until_open (map told is))) ≡ cond (not t) (1 + position_or_len (λ x. is_some (sizes_of (told x))) is) 0
+    go true h = refl
+    go false h = omega arith
 
 pub until_short : (is : List Item) → length (until_open is) ≤ length is
 until_short [] = omega arith
@@ -56,13 +57,6 @@ until_none (i ∷ is) = go (is_some (sizes_of i)) refl (until_none is)
     go : (t : Bool) → is_some (sizes_of i) ≡ t → until_open (from_open is) ≡ [] → until_open (cond t (i ∷ is) (from_open is)) ≡ []
     go true e h = ap (λ t. cond {A = List Item} t [] (i ∷ until_open is)) e
     go false e h = h
-
--- where no line is until_open and the first opens nothing, there is none
-pub none_left : (is : List Item) → until_open is ≡ [] → opening is ≡ None → is ≡ []
-none_left [] q o = refl
-none_left (i ∷ is) q o =
-    let more : until_open (i ∷ is) ≡ i ∷ until_open is = ap (λ x. cond {A = List Item} (is_some x) [] (i ∷ until_open is)) o in
-    let z : ◌≡◌ {A = ℕ} 0 1 = cc in absurd (omega arith)
 
 pub from_short : (is : List Item) → length (from_open is) ≤ length is
 from_short [] = omega arith

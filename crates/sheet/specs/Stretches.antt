@@ -1,5 +1,6 @@
 -- How the code goes through a sheet: a stretch of lines at a time, each from an accepted open on.
-use Rattle.std.specs.Prelude.{◌≡◌, ℕ, true, cond, List, [], ◌∷◌, ◌++◌, is_some, Some, None, Ok, Err, Option}
+use Rattle.std.specs.Prelude.{◌≡◌, ℕ, true, cond, List, [], ◌∷◌, is_some, Some, None, Ok, Err, Option}
+use Rattle.std.specs.List.{filter_map}
 use Rattle.store.specs.Refusals.{bad_table}
 use Rattle.certifier.specs.declared.Call as certifier
 use Rattle.certifier.specs.Entries.{Entry}
@@ -45,19 +46,23 @@ abbrev pub from_open : List Item → List Item
 from_open [] = []
 from_open (i ∷ is) = cond (is_some (sizes_of i)) (i ∷ is) (from_open is)
 
+-- the first line is an accepted open, the lines ms stand behind it up to the next, and ns from that on
+abbrev pub Begins : List Item → ℕ → ℕ → LogKind → List Item → List Item → Type 0
+Begins is r l k ms ns = (more : List Item) × Opens is r l k more × (ms ≡ until_open more) × (ns ≡ from_open more)
+
 -- no line opens a log
 abbrev pub NoneOpens : List Item → Type 0
 NoneOpens is = until_open is ≡ is
 
--- the calls among lines
-abbrev pub call_in : Item → List (certifier.Call ℕ)
-call_in (Err f) = []
-call_in (Ok (Open r l k)) = []
-call_in (Ok (Call c)) = c ∷ []
+-- the call of a line, if it makes one
+abbrev pub call_in : Item → Option (certifier.Call ℕ)
+call_in (Err f) = None
+call_in (Ok (Open r l k)) = None
+call_in (Ok (Call c)) = Some c
 
+-- the calls among lines
 abbrev pub calls_in : List Item → List (certifier.Call ℕ)
-calls_in [] = []
-calls_in (i ∷ is) = call_in i ++ calls_in is
+calls_in is = filter_map call_in is
 
 -- what a call is answered to which some answers are left: the first; and where there is none it found no log
 abbrev pub next_of : List Response → Response

@@ -44,12 +44,15 @@ fn behind(rt: HostRuntime) -> anyhow::Result<()> {
     bytes.extend_from_slice(file_sheet(rt.alloc(), b"open 3 3\n")?.as_slice())?;
     bytes.extend_from_slice(file_sheet(rt.alloc(), SKEW)?.as_slice())?;
     show(rt, "junk, an empty file, and a file", bytes.as_slice())?;
-    bytes.truncate(34);
-    show(rt, "the same, one byte less", bytes.as_slice())?;
-    bytes.truncate(14);
-    show(rt, "junk, and an empty file", bytes.as_slice())?;
-    bytes.truncate(9);
-    show(rt, "nine bytes", bytes.as_slice())
+    for (length, name) in [
+        (34, "the same, one byte less"),
+        (14, "junk, and an empty file"),
+        (9, "nine bytes"),
+    ] {
+        bytes.truncate(length);
+        show(rt, name, bytes.as_slice())?;
+    }
+    Ok(())
 }
 
 fn main(rt: HostRuntime) -> anyhow::Result<()> {

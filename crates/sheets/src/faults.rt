@@ -4,60 +4,44 @@ use crate::show;
 // The longest sheet that is read.
 const MOST: usize = 32768;
 
-fn lines(rt: HostRuntime) -> anyhow::Result<()> {
-    show(rt, "empty", b"")?;
-    show(rt, "one empty line", b"\n")?;
-    show(rt, "empty line between", b"open 1 1\n\ndrop 0\n")?;
-    show(rt, "last line without its end", b"open 1 1\nbegin 0")?;
-    show(rt, "carriage returns", b"open 1 1\r\nbegin 0\r\n")?;
-    show(rt, "one space", b" ")
-}
-
-fn words(rt: HostRuntime) -> anyhow::Result<()> {
-    show(
-        rt,
+// Sheets by their names: on lines, on words, and on numbers and openings.
+const SHEETS: [(&str, &str); 14] = [
+    ("empty", ""),
+    ("one empty line", "\n"),
+    ("empty line between", "open 1 1\n\ndrop 0\n"),
+    ("last line without its end", "open 1 1\nbegin 0"),
+    ("carriage returns", "open 1 1\r\nbegin 0\r\n"),
+    ("one space", " "),
+    (
         "wrong words",
-        b"begn 0\nBegin 0\n begin 0\nbegin  0\nbegin 0 \nbegin 0 0\nopen 2 8 latest\nopen 2 8 newest 1\nopen 2 8 \n",
-    )?;
-    show(
-        rt,
+        "begn 0\nBegin 0\n begin 0\nbegin  0\nbegin 0 \nbegin 0 0\nopen 2 8 latest\nopen 2 8 newest 1\nopen 2 8 \n",
+    ),
+    (
         "wrong numbers",
-        b"begin\nbegin x\nbegin -1\nbegin 00\nbegin 07\nbegin 4294967296\nbegin 99999999999999999999\nread 0\nwrite 0 1\nopen 2\nopen 0x2 8\n",
-    )?;
-    show(
-        rt,
-        "leftmost fault",
-        b"begin x y\nread 0  x\nwrite x\nbegn x\n",
-    )?;
-    show(
-        rt,
+        "begin\nbegin x\nbegin -1\nbegin 00\nbegin 07\nbegin 4294967296\nbegin 99999999999999999999\nread 0\nwrite 0 1\nopen 2\nopen 0x2 8\n",
+    ),
+    ("leftmost fault", "begin x y\nread 0  x\nwrite x\nbegn x\n"),
+    (
         "no log yet",
-        b"begin 0\nread 0 0\nwrite 0 0 1\ncommit 0\ndrop 0\nbegin 0 0\n",
-    )
-}
-
-fn numbers(rt: HostRuntime) -> anyhow::Result<()> {
-    show(
-        rt,
+        "begin 0\nread 0 0\nwrite 0 0 1\ncommit 0\ndrop 0\nbegin 0 0\n",
+    ),
+    (
         "greatest numbers",
-        b"open 1 2\nbegin 4294967295\nbegin 0\nread 0 4294967295\nwrite 0 0 4294967295\nread 0 0\nwrite 0 0 4294967296\ncommit 0\n",
-    )?;
-    show(
-        rt,
+        "open 1 2\nbegin 4294967295\nbegin 0\nread 0 4294967295\nwrite 0 0 4294967295\nread 0 0\nwrite 0 0 4294967296\ncommit 0\n",
+    ),
+    (
         "openings",
-        b"open 0 4\nopen 1 0\nopen 2 1\nopen 257 300\nopen 1 2049\nopen 4294967295 4294967295\nopen 256 2048\nopen 1 1 snapshot\n",
-    )?;
-    show(
-        rt,
+        "open 0 4\nopen 1 0\nopen 2 1\nopen 257 300\nopen 1 2049\nopen 4294967295 4294967295\nopen 256 2048\nopen 1 1 snapshot\n",
+    ),
+    (
         "a refused open keeps the log",
-        b"open 1 2\nbegin 0\nwrite 0 0 5\nopen 0 4\nopen 2 x\ncommit 0\n",
-    )?;
-    show(
-        rt,
+        "open 1 2\nbegin 0\nwrite 0 0 5\nopen 0 4\nopen 2 x\ncommit 0\n",
+    ),
+    (
         "an open starts afresh",
-        b"open 1 2\nbegin 0\ncommit 0\nbegin 0\nopen 1 2\ncommit 0\n",
-    )
-}
+        "open 1 2\nbegin 0\ncommit 0\nbegin 0\nopen 1 2\ncommit 0\n",
+    ),
+];
 
 // Each byte in turn behind `open 1 1`, a line for each.
 fn every_byte(rt: HostRuntime) -> anyhow::Result<()> {
@@ -71,16 +55,18 @@ fn every_byte(rt: HostRuntime) -> anyhow::Result<()> {
 }
 
 // One line of so many bytes.
-fn long_line(rt: HostRuntime, name: &str, bytes: usize) -> anyhow::Result<()> {
+fn long_line(rt: HostRuntime, bytes: usize) -> anyhow::Result<()> {
+    let name = format!(in rt.alloc(); "{bytes} bytes")?;
     let sheet = vec![in rt.alloc(); b'a'; bytes]?;
-    show(rt, name, sheet.as_slice())
+    show(rt, name.as_str(), sheet.as_slice())
 }
 
+/// Shows the edges of the format.
 pub(crate) fn show_all(rt: HostRuntime) -> anyhow::Result<()> {
-    lines(rt)?;
-    words(rt)?;
-    numbers(rt)?;
+    for (name, sheet) in &SHEETS {
+        show(rt, name, sheet.as_bytes())?;
+    }
     every_byte(rt)?;
-    long_line(rt, "32768 bytes", MOST)?;
-    long_line(rt, "32769 bytes", MOST + 1)
+    long_line(rt, MOST)?;
+    long_line(rt, MOST + 1)
 }

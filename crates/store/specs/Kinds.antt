@@ -1,5 +1,5 @@
 -- The kinds of store, by their rules.
-use Rattle.std.specs.Prelude.{◌≡◌, ℕ, ◌+◌, ◌-◌, Bool, true, cond, leb, List, [], ◌∷◌, length, nat_le}
+use Rattle.std.specs.Prelude.{◌≡◌, ℕ, ◌+◌, ◌-◌, Bool, true, cond, List, [], ◌∷◌, length, nat_le}
 use Rattle.store.specs.Meaning.{Rules}
 
 -- the position of the last stamp that passes a test: `best` so far, `at` the position of the next one
@@ -17,7 +17,7 @@ newest_rules = record { shown = λ stamps began. length stamps - 1; admits = λ 
 
 -- snapshot: the last version whose stamp is at most the begin stamp; a write goes through when the newest stamp is
 abbrev pub snapshot_rules : Rules
-snapshot_rules = record { shown = λ stamps began. last_passing (λ s. leb s began) stamps; admits = λ stamp began. nat_le stamp began }
+snapshot_rules = record { shown = λ stamps began. last_passing (λ s. nat_le s began) stamps; admits = λ stamp began. nat_le stamp began }
 
 -- a read rule that is found by testing stamps from the newest on
 abbrev pub Tested : Rules → (ℕ → ℕ → Bool) → Type 0

@@ -1,14 +1,19 @@
 // The store of versions: its types, its refusals, its interface.
 #![tactic(auto)]
 
-ghost use Rattle.std.specs.Prelude.{◌≡◌, ℕ};
+ghost use Rattle.std.specs.Prelude.{◌≡◌, ℕ, Some};
 ghost use Rattle.store.specs.declared.OpenFault.TheVariants.{Memory};
 ghost use Rattle.store.specs.Meaning.{State, Rules, Inside, begin_of, read_of, read_answer, write_of, commit_of, drop_of, clock_of, size_of, Opens};
 ghost use Rattle.store.specs.Refusals.{code_of, open_code, answer_of};
+ghost use Rattle.store.specs.Layers.{layer_text};
 
 use std::alloc::{AllocError, Global};
+use std::fmt;
 
 pub mod kind;
+mod size;
+
+pub use crate::size::{ConsoleId, TableSize};
 
 /// One version of a record: its number, the stamp of the commit that made it, and its entry.
 #[derive(Clone, Copy)]
@@ -41,6 +46,21 @@ pub enum Layer {
     Card,
     Sheet,
     File,
+}
+
+impl fmt::Display for Layer {
+    ghost output = { λ l. Some (layer_text l) };
+
+    fn fmt<W: fmt::Write>(&self, f: &mut fmt::Formatter<W>) -> fmt::Result {
+        f.write_str(match self {
+            Layer::Store => "store",
+            Layer::Certifier => "certifier",
+            Layer::Opening => "opening",
+            Layer::Card => "card",
+            Layer::Sheet => "sheet",
+            Layer::File => "file",
+        })
+    }
 }
 
 /// A refusal as the table of refusals has it: its number, and the layer that it comes from.

@@ -1,46 +1,30 @@
-use Rattle.std.proofs.Common.{vec_items, refl, arith}
+use Rattle.std.proofs.Common.{rules, ◌≡◌, ◌++◌, [], ◌∷◌, get_or, set, vec_items, refl, ap, ◌∙◌}
+use Rattle.std.specs.Option.{option_to_list}
 use Rattle.std.proofs.lemmas.List.{length-set}
-use Rattle.versions.proofs.Ways.{record-within, top_inside, table_chains, table_kept}
+use Rattle.store.specs.declared.Version.{Version}
+use Rattle.versions.specs.Tables.{chains_of}
+use Rattle.versions.proofs.Ways.{table_chains, table_next, table_size, table_kept}
 use Rattle.versions.proofs.table.Table.push.Goals as goal
-
-pub index-requires : goal.index-requires
-index-requires g c = let l = record-within c.args.self.now c.args.at c.requires.within in omega arith
-
-pub index_mut-requires : goal.index_mut-requires
-index_mut-requires g c =
-    let a = c.args.self.now in
-    let l = top_inside (vec_items a.places) (vec_items a.free) (vec_items c.pop.new.self) c.in-Some.place a.inside a.spotted c.in-Some.ensures.items in
-    omega arith
-
-pub index_mut-requires-2 : goal.index_mut-requires-2
-index_mut-requires-2 g c = let l = record-within c.args.self.now c.args.at c.requires.within in omega arith
 
 pub invariant_of-self : goal.invariant_of-self
 invariant_of-self g c =
     let a = c.args.self.now in
     let f = a.fits in
-    let kept = table_kept a c.args.at c.requires.within c.index.result.now c.index.ensures c.in-Some.place (vec_items c.pop.new.self) c.in-Some.ensures.items
-    (record { number = a.next; stamp = c.args.stamp; entry = c.args.entry }) refl in
-    record {
-      fits = (f.0, f.1, omega (arith, c.in-Some.ensures.capacity));
-      down = kept.down;
-      live = kept.live;
-      mine = kept.mine;
-      headed = kept.headed;
-      owned = kept.owned;
-      numbered = kept.numbered;
-      inside = kept.inside;
-      spotted = kept.spotted;
-      counted = kept.counted;
-    }
+    let popped : vec_items a.free ≡ vec_items c.pop.new.self ++ c.unwrap-place.result ∷ [] = c.pop.ensures.items ∙ ap (λ o. vec_items c.pop.new.self ++ option_to_list o) c.unwrap-place.ensures in
+    let kept = table_kept a c.args.at c.requires.within c.index.result.now c.index.ensures c.unwrap-place.result (vec_items c.pop.new.self) popped
+    (record { number = c.count.result; stamp = c.args.stamp; entry = c.args.entry }) c.count.ensures in
+    search rules
 
 pub returns : goal.returns
 returns g c =
     let a = c.args.self.now in
+    let popped : vec_items a.free ≡ vec_items c.pop.new.self ++ c.unwrap-place.result ∷ [] = c.pop.ensures.items ∙ ap (λ o. vec_items c.pop.new.self ++ option_to_list o) c.unwrap-place.ensures in
+    let v : Version g.row.E.Denot = record { number = c.count.result; stamp = c.args.stamp; entry = c.args.entry } in
     record {
-      chains = table_chains a c.args.at c.requires.within c.index.result.now c.index.ensures c.in-Some.place (vec_items c.pop.new.self) c.in-Some.ensures.items
-          (record { number = a.next; stamp = c.args.stamp; entry = c.args.entry }) refl;
-      room = length-set (vec_items a.places) c.in-Some.place _;
+      chains = table_chains a c.args.at c.requires.within c.index.result.now c.index.ensures c.unwrap-place.result (vec_items c.pop.new.self) popped v c.count.ensures
+          ∙ ap (λ n. set (chains_of a) c.args.at (get_or (chains_of a) c.args.at [] ++ record { number = n; stamp = c.args.stamp; entry = c.args.entry } ∷ [])) c.count.ensures;
+      next = table_next a c.args.at c.requires.within c.index.result.now c.index.ensures c.unwrap-place.result (vec_items c.pop.new.self) popped v c.count.ensures;
+      size = table_size a c.args.at c.requires.within c.index.result.now c.index.ensures c.unwrap-place.result (vec_items c.pop.new.self) popped v c.count.ensures;
+      room = length-set (vec_items a.places) c.unwrap-place.result _;
       first = refl;
-      next = refl;
     }
