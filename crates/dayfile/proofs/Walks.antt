@@ -1,7 +1,8 @@
 -- Laws of the walk over a file's entries.
-use Rattle.std.proofs.Common.{◌≡◌, ℕ, zero, suc, ◌+◌, ◌-◌, ◌*◌, ◌/◌, ◌<◌, ◌≤◌, Bool, true, false, cond, List, [], ◌∷◌, map, length, drop, Some, None, Option, sym, refl, ap, ◌∙◌, subst, arith, ltb-true, eq-eqb, ne_eqb, leb-true}
+use Rattle.std.proofs.Common.{◌≡◌, ℕ, zero, suc, ◌+◌, ◌-◌, ◌*◌, ◌/◌, ◌<◌, ◌≤◌, Bool, true, false, cond, List, [], ◌∷◌, map, length, drop, is_some, Some, None, Option, sym, refl, ap, ◌∙◌, subst, arith, ltb-true, eq-eqb, ne_eqb, leb-true}
 use Rattle.std.proofs.lemmas.Simd.{map-map}
 use Rattle.std.proofs.lemmas.Bool.{and_parts}
+use Rattle.std.specs.Option.{option_map}
 use Rattle.std.specs.List.{enumerate_from}
 use Rattle.dayfile.specs.declared.Entry.{Entry}
 use Rattle.dayfile.specs.Said.{said}
@@ -108,6 +109,15 @@ step_gives w v e h = by w.left refl
     by : (n : ℕ) → n ≡ w.left → Stepped w v e
     by zero q = absurd (no_entry e w v (h ∙ ap (λ t. cond t (None, w) (next_of w (entry_at w.place w.bound w.rest))) (eq-eqb w.left 0 (sym q))))
     by (suc n) q = let l : 0 < w.left = omega arith in more l (entry_at w.place w.bound w.rest) refl (h ∙ ap (λ t. cond t (None, w) (next_of w (entry_at w.place w.bound w.rest))) (ne_eqb w.left 0 (λ z. omega arith)))
+
+onto_is_some : (e : Commit) (o : Option (List Commit)) → is_some (onto e o) ≡ is_some o
+onto_is_some e None = refl
+onto_is_some e (Some es) = refl
+
+-- a step that gives an entry leaves the question whether the others are there
+pub step_on : (r : Option Entry) (w v : Walk) → is_some r ≡ true → (option_map said r, v) ≡ step_of w → is_some (to_come v) ≡ is_some (to_come w)
+step_on None w v h s = let z : false ≡ true = h in cc
+step_on (Some e) w v h s = sym (ap is_some (step_gives w v (said e) s).come ∙ onto_is_some (said e) (to_come v))
 
 -- where a step gives none, no entry was to come
 pub step_ends : (w v : Walk) (rest : List Commit) → (None, v) ≡ step_of w → to_come w ≡ Some rest → rest ≡ []

@@ -1,5 +1,7 @@
 -- What the code's values stand for.
-use Rattle.std.specs.Prelude.{ℕ, List}
+use Rattle.std.specs.Prelude.{◌≡◌, ℕ, List}
+use Rattle.std.specs.Iterator.{YieldsFirst}
+use Rattle.std.specs.Iterator.Runs.{YieldsInOrder}
 use Rattle.dayfile.specs.declared.Entry.{Entry}
 use Rattle.dayfile.specs.declared.file.DayFile.{DayFile}
 use Rattle.dayfile.specs.declared.file.Entries.{Entries}
@@ -19,3 +21,8 @@ walk_of w = record { left = w.left; place = w.spot.place; bound = w.spot.bound; 
 -- the numbers that are still to come
 abbrev pub numbers_of : Pairs → List ℕ
 numbers_of p = pairs p.0.now
+
+-- the iterator has these numbers to give, and gives them in turn
+pub record Gives (p : Pairs) (ns : List ℕ) : Type 0 where
+  pub numbers : numbers_of p ≡ ns
+  pub runs : YieldsInOrder (YieldsFirst numbers_of) numbers_of

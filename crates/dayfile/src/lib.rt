@@ -7,11 +7,9 @@ mod spot;
 mod versions;
 
 ghost use Rattle.std.specs.Prelude.{◌≡◌};
-ghost use Rattle.std.specs.Iterator.{YieldsFirst};
-ghost use Rattle.std.specs.Iterator.Runs.{YieldsInOrder};
 ghost use Rattle.dayfile.specs.Refusals.{code_of};
 ghost use Rattle.dayfile.specs.Format.{head_fits};
-ghost use Rattle.dayfile.specs.Said.{said, numbers_of};
+ghost use Rattle.dayfile.specs.Said.{said, Gives};
 
 pub use file::{DayFile, Entries};
 pub use read::unpack;
@@ -73,16 +71,14 @@ pub fn head_fits(console: u32, reads: usize, writes: usize, low: u32, place: u32
 impl<'a> Entry<'a> {
     /// The versions that it noted.
     pub fn noted(&self) -> Pairs<'a>
-        ensures numbers { numbers_of result ≡ (said self.now).reads }
-        ensures runs { YieldsInOrder (YieldsFirst numbers_of) numbers_of }
+        ensures { Gives result (said self.now).reads }
     {
         Pairs::of(self.reads)
     }
 
     /// The versions that it overwrote.
     pub fn overwritten(&self) -> Pairs<'a>
-        ensures numbers { numbers_of result ≡ (said self.now).writes }
-        ensures runs { YieldsInOrder (YieldsFirst numbers_of) numbers_of }
+        ensures { Gives result (said self.now).writes }
     {
         Pairs::of(self.writes)
     }

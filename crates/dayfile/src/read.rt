@@ -110,6 +110,7 @@ impl<'a> Entries<'a> {
     fn fill(mut self) -> bool
         ensures { result ≡ is_some (entries_in self.entry.left self.entry.spot.place self.entry.spot.bound self.entry.rest.now) }
     {
+        // Kept: after a `for` over `&mut self`, which was tried, nothing is known of what is left in the walk.
         while self.next().is_some() {}
         self.left == 0 && self.rest.is_empty()
     }
@@ -149,6 +150,7 @@ pub fn unpack(bytes: &[u8], out: &mut [u32]) -> usize
     ensures rest { drop result out.new ≡ drop result out.old }
 {
     let count = out.len().min(bytes.len() / 2);
+    // Kept: in a `for` over `out.iter_mut().zip(..)`, which was tried, a proof has no name for what the list holds.
     for (i, number) in Pairs::of(bytes).take(count).enumerate() {
         out[i] = number;
     }

@@ -1,9 +1,8 @@
 // Lists of versions, as a file keeps them and as a caller does.
 ghost use Rattle.std.specs.Prelude.{◌≡◌, ℕ, ◌/◌, List, length};
 ghost use Rattle.std.specs.Iterator.{YieldsFirst, item_count};
-ghost use Rattle.std.specs.Iterator.Runs.{YieldsInOrder};
 ghost use Rattle.dayfile.specs.Format.{below, pairs};
-ghost use Rattle.dayfile.specs.Said.{numbers_of};
+ghost use Rattle.dayfile.specs.Said.{numbers_of, Gives};
 
 /// The numbers that pairs of bytes are, in turn, high byte first. A last byte without another is passed over.
 #[derive(Clone, Copy)]
@@ -13,8 +12,7 @@ impl<'a> Pairs<'a> {
     /// The numbers of these bytes.
     #[tactic(auto, using(crate::proofs::Bytes::pairs_in_order))]
     pub fn of(bytes: &'a [u8]) -> Pairs<'a>
-        ensures numbers { numbers_of result ≡ pairs bytes.now }
-        ensures runs { YieldsInOrder (YieldsFirst numbers_of) numbers_of }
+        ensures { Gives result (pairs bytes.now) }
     {
         Pairs(bytes)
     }

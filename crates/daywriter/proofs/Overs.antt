@@ -1,10 +1,8 @@
 -- Laws of writing over a part of a buffer.
 use Rattle.std.proofs.Common.{◌≡◌, ℕ, zero, suc, ◌+◌, ◌*◌, ◌/◌, ◌%◌, ◌<◌, ◌≤◌, true, ltb, List, [], ◌∷◌, ◌++◌, length, get_or, take, drop, sym, refl, ap, ◌∙◌, arith, ltb-true, lt-ltb, w16}
 use lib.Seq.{paste}
-use borrow.Rule.Slice.PartMut.{put_mid}
 use Rattle.std.proofs.lemmas.List.Edits.{paste_all, paste-paste, length-paste}
 use Rattle.std.proofs.lemmas.List.{length-append, take-append-drop, take_more, length-take-le}
-use Rattle.std.proofs.lemmas.Slice.{put_mid-paste}
 use Rattle.std.proofs.lemmas.Bool.{and_parts, and_from}
 use Rattle.std.specs.Int.{to_be_bytes}
 use Rattle.dayfile.specs.Format.{Commit, twos, below, entry_bytes}
@@ -13,9 +11,6 @@ use Rattle.daywriter.specs.Writing.{over}
 
 pub over_paste : (b : List ℕ) (at : ℕ) (s : List ℕ) → paste b at s (length s) ≡ over b at s
 over_paste b at s = paste_all b at s (length s) refl
-
-pub put_over : (b : List ℕ) (at k : ℕ) (s ys : List ℕ) → ys ≡ s → k ≡ length s → put_mid at k b ys ≡ over b at s
-put_over b at k s ys e h = put_mid-paste at k b ys s (length s) e (sym h) refl ∙ over_paste b at s
 
 pub over_more : (b : List ℕ) (at : ℕ) (s t : List ℕ) → at ≤ length b → over (over b at s) (at + length s) t ≡ over b at (s ++ t)
 over_more b at s t h =

@@ -182,11 +182,8 @@ module _ (xs : List NewEntry) (i : ℕ) (h : i < length xs) where
   pub front_at : map wrote (take (i + 1) xs) ≡ map wrote (take i xs) ++ wrote (get_or xs i blank) ∷ []
   front_at = ap (map wrote) (take_more xs i blank h) ∙ map-append wrote (take i xs) (get_or xs i blank ∷ [])
 
--- a check of entries goes on past one that is taken, and stops at one that is refused
+-- a check of entries stops at one that is refused
 module _ (room : ℕ) (x : Extent) (e : Commit) (es : List Commit) where
-  pub take_on : gives tt ≡ taking room x e → taken_all room (after x e) es ≡ taken_all room x (e ∷ es)
-  take_on h = ap (λ a. and_then a (λ u. taken_all room (after x e) es)) h
-
   pub take_not : (c : Code) → refuses c ≡ taking room x e → refuses c ≡ taken_all room x (e ∷ es)
   take_not c h = ap (λ a. and_then a (λ u. taken_all room (after x e) es)) h
 

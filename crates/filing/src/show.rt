@@ -65,8 +65,7 @@ fn print_file(text: &mut String, file: &DayFile) -> Result<(), AllocError>
 fn print_refusal(text: &mut String, refusal: FileRefusal) -> Result<(), AllocError>
     ensures { OnOk result (Appends text.old text.new (answer_text (refuses (code_of refusal)))) }
 {
-    let number = refusal.code().number;
-    writeln!(text, "no {number}")
+    writeln!(text, "no {}", refusal.code().number)
 }
 
 /// What is printed of the last day file in the bytes: where it stands, its records and commits, and a line for each entry;
