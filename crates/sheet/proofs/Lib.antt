@@ -1,5 +1,6 @@
 pub mod Lines
 pub mod Numbers
+pub mod Places
 pub mod Ranked
 pub mod Spelled
 pub mod Stretching

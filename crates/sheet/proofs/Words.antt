@@ -1,23 +1,12 @@
 -- One step of a walk over the words of a line.
-use Rattle.std.proofs.Common.{◌≡◌, ◌==◌, ℕ, suc, ◌+◌, ◌-◌, ◌<◌, ◌≤◌, ◌⊎◌, Bool, true, false, not, cond, eqb, ltb, List, [], ◌∷◌, length, take, drop, Some, None, Option, Bor, sym, refl, ap, ◌∙◌, ⊎_elim, arith, length-take, length-drop, lt-ltb, le-ltb}
+use Rattle.std.proofs.Common.{◌≡◌, ◌==◌, ℕ, suc, ◌+◌, ◌-◌, ◌<◌, ◌≤◌, ◌⊎◌, Bool, true, false, not, cond, eqb, List, [], ◌∷◌, length, take, drop, Some, None, Option, Bor, sym, refl, ap, ◌∙◌, ⊎_elim, arith, length-take, length-drop}
 use Rattle.std.specs.List.{position_or_len, slice_range, onto_first}
-use Rattle.std.specs.Option.{MatchOption, unwrap_or}
-use Rattle.std.proofs.lemmas.Bool.{cases_lt}
+use Rattle.std.specs.Option.{MatchOption}
 use Rattle.std.proofs.lemmas.List.{take_all}
 use Rattle.std.proofs.lemmas.List.Sums.{prefix_len-le-length}
 use Rattle.std.proofs.lemmas.List.Splits.{slice_split_first}
 use Rattle.sheet.specs.Cuts.{placed, pieces}
 use Rattle.sheet.specs.Walks.{words_left}
-
--- the place at which a list is first cut, from what `position` answers
-pub cut_at : {X : Type 0} (p : X → Bool) (bs : List X) (found : Option ℕ) (cut : ℕ) → found ≡ cond (ltb (position_or_len p bs) (length bs)) (Some (position_or_len p bs)) None
-    → cut ≡ unwrap_or found (length bs) → cut ≡ position_or_len p bs
-cut_at p bs found cut f e =
-    let n = position_or_len p bs in
-    let short = prefix_len-le-length (λ b. not (p b)) bs in
-    let at = λ (t : Bool). unwrap_or (cond {A = Option ℕ} t (Some n) None) (length bs) in
-    e ∙ ap (λ o. unwrap_or o (length bs)) f
-    ∙ ⊎_elim (λ lt. ap at (lt-ltb n (length bs) lt)) (λ ge. let last : length bs ≡ n = omega arith in ap at (le-ltb n (length bs) ge) ∙ last) (cases_lt n (length bs))
 
 -- where no byte cuts it, a list is one piece
 one_piece : (s : ℕ) (bs : List ℕ) → position_or_len (λ b. eqb b s) bs ≡ length bs → pieces s bs ≡ bs ∷ []

@@ -1,8 +1,9 @@
 // Which lines open a log, and the stretches that they begin.
-ghost use Rattle.std.specs.Prelude.{◌≡◌, ℕ, map, length, None, MatchOption};
+ghost use Rattle.std.specs.Prelude.{◌≡◌, ℕ, map, None, MatchOption};
+ghost use Rattle.std.specs.List.{position_or_len};
 ghost use Rattle.std.specs.Option.{option_map};
 ghost use Rattle.sheet.specs.Faults.{told};
-ghost use Rattle.sheet.specs.Stretches.{sizes_of, opening, until_open, from_open, NoneOpens, Begins};
+ghost use Rattle.sheet.specs.Stretches.{sizes_of, opening, opens, until_open, from_open, NoneOpens, Begins};
 
 use crate::items::Item;
 use crate::request::{LogKind, Request};
@@ -48,7 +49,7 @@ pub(crate) fn stretch_of(items: &[Item]) -> Option<Stretch<'_>>
 
 // How many lines stand before the first accepted open.
 fn until_open(items: &[Item]) -> usize
-    ensures { result ≡ length (until_open (map told items.now)) }
+    ensures { result ≡ position_or_len opens (map told items.now) }
 {
     items
         .iter()

@@ -1,12 +1,13 @@
-use Rattle.std.proofs.Common.{[], ◌∷◌, ◌++◌, map, length, Some, None, Ok, vec_items, sym, refl, ap, ◌∙◌, arith}
+use Rattle.std.proofs.Common.{[], ◌∷◌, ◌++◌, map, length, Some, None, Ok, vec_items, sym, refl, ap, ◌∙◌, arith, length-drop}
 use lib.ListN.{length-map}
+use Rattle.std.specs.List.{position_or_len}
 use Rattle.sheet.specs.declared.response.Success.TheVariants.{Done}
 use Rattle.sheet.specs.Answers.{rules_of, responses_of, log_after}
 use Rattle.sheet.specs.Endings.{fresh_of}
 use Rattle.sheet.specs.Faults.{told}
-use Rattle.sheet.specs.Stretches.{until_open, beside}
+use Rattle.sheet.specs.Stretches.{opens, until_open, beside}
 use Rattle.filing.proofs.Appends.{append_more}
-use Rattle.sheet.proofs.Untils.{until_none, from_short}
+use Rattle.sheet.proofs.Untils.{until_none}
 use Rattle.sheet.proofs.Stretching.{before_responses, before_log, turn_responses, turn_log}
 use Rattle.sheet.proofs.play.play.Goals as goal
 
@@ -31,7 +32,7 @@ loop-stretch-smaller c =
     let more = c.in-Some.ensures.0 in
     let next = c.in-Some.stretch.behind.now in
     let rest = c.loop-stretch.rest.now in
-    omega (arith, length-map next told, length-map rest told, from_short more, ap length c.in-Some.ensures.3, ap length c.in-Some.ensures.1.0)
+    omega (arith, length-map next told, length-map rest told, length-drop (position_or_len opens more) more, ap length c.in-Some.ensures.3, ap length c.in-Some.ensures.1.0)
 
 pub loop-stretch-preserved : goal.loop-stretch-preserved
 loop-stretch-preserved c =
