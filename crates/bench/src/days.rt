@@ -71,20 +71,16 @@ impl<S: Store<u32>> Day<S> {
         self.tally.number(marks)
     }
 
-    // A record that is thrown for.
-    fn thrown(&mut self) -> u32 {
-        self.plan.record(self.dice.roll())
-    }
-
     // One transaction of console 0.
     fn transaction(&mut self, turn: u32) {
+        let plan = self.plan;
         let mut sum = self.begin(0);
-        for _read in 0..self.plan.reads {
-            let at = self.thrown();
+        for _read in 0..plan.reads {
+            let at = plan.record(self.dice.roll());
             sum = sum.wrapping_add(self.read(0, at));
         }
-        if self.plan.writes(turn) {
-            let at = self.thrown();
+        if plan.writes(turn) {
+            let at = plan.record(self.dice.roll());
             sum = sum.wrapping_add(self.write(0, at, turn));
         }
         sum = sum.wrapping_add(self.commit(0));
@@ -99,9 +95,10 @@ impl<S: Store<u32>> Day<S> {
 
     // Each console makes one call.
     fn phase(&mut self, shift: usize, entry: u32) {
+        let plan = self.plan;
         let mut sum = 0u32;
         for (console, step) in (0..16u32).zip(STEPS.iter().cycle().skip(shift)) {
-            let at = self.thrown();
+            let at = plan.record(self.dice.roll());
             let number = match step {
                 Step::Begin => self.begin(console),
                 Step::Read => self.read(console, at),
