@@ -69,6 +69,7 @@ impl Report {
     }
 
     // Works through so many days, each on a log of its own.
+    // Kept: plan and tally as parameters; as fields of a line's struct a transaction of `wide newest` took 93 ns and not 77.
     fn days<S: Store<u32>>(&self, plan: &Plan, days: u32, tally: &mut Tally) -> anyhow::Result<()> {
         let mut dice = Dice::new(1);
         for _day in 0..days {

@@ -48,6 +48,7 @@ impl<K: Kind> Ask for Versions<u32, K> {
     }
 }
 
+// Kept: beside the impl for a store, since a store and a log have no trait in common of which both could be one impl.
 impl<S: Store<u32>> Ask for Log<S, u32> {
     const NAME: &'static str = "log";
 

@@ -103,36 +103,33 @@ impl fmt::Display for Said {
     }
 }
 
-/// Why a call or an opening is not accepted.
+/// Why a call or an opening is not accepted: number and layer, or none for want of memory.
 #[derive(Clone, Copy)]
-pub(crate) enum Fault {
-    Refused(Code),
-    NoMemory,
-}
+pub(crate) struct Fault(Option<Code>);
 
 impl From<Refusal> for Fault {
     fn from(refusal: Refusal) -> Fault {
-        Fault::Refused(refusal.code())
+        Fault(Some(refusal.code()))
     }
 }
 
 impl From<LogRefusal> for Fault {
     fn from(refusal: LogRefusal) -> Fault {
-        Fault::Refused(refusal.code())
+        Fault(Some(refusal.code()))
     }
 }
 
 impl From<OpenFault> for Fault {
     fn from(fault: OpenFault) -> Fault {
-        fault.code().map_or(Fault::NoMemory, Fault::Refused)
+        Fault(fault.code())
     }
 }
 
 impl fmt::Display for Fault {
     fn fmt<W: fmt::Write>(&self, f: &mut fmt::Formatter<W>) -> fmt::Result {
-        match *self {
-            Fault::Refused(Code { number, layer }) => write!(f, "no {number} {layer}"),
-            Fault::NoMemory => write!(f, "no memory"),
+        match self.0 {
+            Some(Code { number, layer }) => write!(f, "no {number} {layer}"),
+            None => write!(f, "no memory"),
         }
     }
 }

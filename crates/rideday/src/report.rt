@@ -3,27 +3,34 @@ use crate::day::{Day, JOBS, Refused, count_of};
 use crate::job::TRAINS;
 use anyhow::{bail, ensure};
 use certifier::LogRefusal;
-use std::io;
+use std::{fmt, io};
 use store::{Refusal, Store};
 
-fn name(refusal: LogRefusal) -> &'static str {
-    match refusal {
-        LogRefusal::NoConsole | LogRefusal::Store(Refusal::NoConsole) => "NO CONSOLE",
-        LogRefusal::NoRecord | LogRefusal::Store(Refusal::NoRecord) => "NO RECORD",
-        LogRefusal::Shut | LogRefusal::Store(Refusal::Shut) => "SHUT",
-        LogRefusal::Open | LogRefusal::Store(Refusal::Open) => "OPEN",
-        LogRefusal::Reads => "READS",
-        LogRefusal::Writes => "WRITES",
-        LogRefusal::Store(Refusal::Held) => "HELD",
-        LogRefusal::Store(Refusal::Stale) => "STALE",
-        LogRefusal::Store(Refusal::NoRoom) => "NO ROOM",
-        LogRefusal::DayFull | LogRefusal::Store(Refusal::DayFull) => "DAY FULL",
-        LogRefusal::Unsafe => "UNSAFE",
-        LogRefusal::NoVersion => "NO VERSION",
-        LogRefusal::ShortList => "SHORT LIST",
+// The name of a refusal.
+#[derive(Clone, Copy)]
+struct Name(LogRefusal);
+
+impl fmt::Display for Name {
+    fn fmt<W: fmt::Write>(&self, f: &mut fmt::Formatter<W>) -> fmt::Result {
+        f.write_str(match self.0 {
+            LogRefusal::NoConsole | LogRefusal::Store(Refusal::NoConsole) => "NO CONSOLE",
+            LogRefusal::NoRecord | LogRefusal::Store(Refusal::NoRecord) => "NO RECORD",
+            LogRefusal::Shut | LogRefusal::Store(Refusal::Shut) => "SHUT",
+            LogRefusal::Open | LogRefusal::Store(Refusal::Open) => "OPEN",
+            LogRefusal::Reads => "READS",
+            LogRefusal::Writes => "WRITES",
+            LogRefusal::Store(Refusal::Held) => "HELD",
+            LogRefusal::Store(Refusal::Stale) => "STALE",
+            LogRefusal::Store(Refusal::NoRoom) => "NO ROOM",
+            LogRefusal::DayFull | LogRefusal::Store(Refusal::DayFull) => "DAY FULL",
+            LogRefusal::Unsafe => "UNSAFE",
+            LogRefusal::NoVersion => "NO VERSION",
+            LogRefusal::ShortList => "SHORT LIST",
+        })
     }
 }
 
+// Prints commit stamps on one line.
 fn stamps(rt: HostRuntime, what: &str, stamps: &[u32]) -> io::Result<()> {
     print!(rt; "{what} by rank:")?;
     for stamp in stamps {
@@ -52,7 +59,7 @@ impl<S: Store<u32>> Day<S> {
     /// The refusals that came, by number and name.
     pub(crate) fn refusals(&self, rt: HostRuntime) -> io::Result<()> {
         for (number, Refused { refusal, times }) in &self.refused {
-            let name = name(*refusal);
+            let name = Name(*refusal);
             println!(rt; "refused {number} {name}: {times} times")?;
         }
         Ok(())
