@@ -48,8 +48,7 @@ module _ {E : Type 0} (first : E) (size : ℕ) where
   in_turn : (ts : List (Transaction E)) → Good first size ts → (r : ℕ) (u t : Transaction E) → Has u ts → Has t ts → Wrote u r → Wrote t r
       → u.grant.stamp < t.grant.stamp → Before u t
   in_turn [] g r u t h k a b l = elim h [ ]
-  in_turn (w ∷ ws) g r u t (inl h) k a b l =
-      absurd (omega (arith, stamped first size (w ∷ ws) g t k, stamp_same h, commit_stamp g.0))
+  in_turn (w ∷ ws) g r u t (inl h) k a b l = grind (arith, common_steps, stamped, stamp_same, commit_stamp)
   in_turn (w ∷ ws) g r u t (inr h) (inl k) a b l =
       let y = latest ws g.1 r u h a in
       let m = y.0 in
@@ -164,7 +163,7 @@ module _ {E : Type 0} where
   Falling (t ∷ past) = ((u : Transaction E) → Has u past → Before u t) × Falling past
 
   last_skips : (first : E) (t : Transaction E) (past : List (Transaction E)) (r : ℕ) → (Wrote t r → ⊥) → last_of first (t ∷ past) r ≡ last_of first past r
-  last_skips first t past r n = ap (λ o. or_else o (last_of first past r)) (not_held (pending_of t) r (not_true_false (holds (pending_of t) r) n))
+  last_skips first t past r n = grind (arith, common_steps, not_held, pending_of, not_true_false)
 
   last_none : (first : E) (past : List (Transaction E)) (r : ℕ) → ((u : Transaction E) → Has u past → Wrote u r → ⊥) → last_of first past r ≡ first
   last_none first [] r n = refl
