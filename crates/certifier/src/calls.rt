@@ -21,9 +21,7 @@ impl From<Refusal> for LogRefusal {
             Refusal::Shut => LogRefusal::Shut,
             Refusal::Open => LogRefusal::Open,
             Refusal::DayFull => LogRefusal::DayFull,
-            Refusal::Held => LogRefusal::Store(Refusal::Held),
-            Refusal::Stale => LogRefusal::Store(Refusal::Stale),
-            Refusal::NoRoom => LogRefusal::Store(Refusal::NoRoom),
+            Refusal::Held | Refusal::Stale | Refusal::NoRoom => LogRefusal::Store(e),
         }
     }
 }
