@@ -129,9 +129,7 @@ module _ {E : Type 0} (first : E) (size : ℕ) where
 
   pub low_stamp : (ts : List (Transaction E)) → Good first size ts → (u : Transaction E) → Has u ts → u.grant.low ≤ u.grant.stamp
   low_stamp [] g u h = elim h [ ]
-  low_stamp (t ∷ ts) g u (inl e) =
-      subst (λ (x : Transaction E). x.grant.low ≤ x.grant.stamp) (sym e)
-      (omega (arith, commit_stamp g.0, ap (λ q. q.low) g.0.grant, lowest_le ts (length ts + 1) (read_in t.acts)))
+  low_stamp (t ∷ ts) g u (inl e) = grind (arith, common_steps, commit_stamp, lowest_le)
   low_stamp (t ∷ ts) g u (inr h) = low_stamp ts g.1 u h
 
   -- what was read or overwritten is below the next number

@@ -2,7 +2,7 @@
 use Rattle.std.proofs.Common.{◌≡◌, ℕ, ◌+◌, ◌<◌, ◌≤◌, true, false, leb, List, [], ◌∷◌, ◌++◌, length, get_or, set, Some, None, Option, sym, refl, ap, ◌∙◌, subst, arith}
 use Rattle.std.proofs.lemmas.Grind.{common_steps}
 use Rattle.std.proofs.lemmas.List.{get_or-set_same, get_or-set_other, length-set, length-map, length_push}
-use Rattle.std.proofs.lemmas.Bool.{both_ways, cond-true}
+use Rattle.std.proofs.lemmas.Bool.{cond-true}
 use Rattle.store.specs.declared.Pending.{Pending}
 use Rattle.store.specs.declared.Version.{Version}
 use Rattle.store.specs.Meaning.{Rules, Inside, Console, holds, pending_list, pending_in, console_at, newest_at, stamps_of, replaced, own_at}
@@ -57,14 +57,10 @@ module _ {E : Type 0} where
     pending_at_lem c = pending_set s.store.consoles k c (omega (arith, h.consoles))
 
     pub begun_kept : Tied f size (with_current m k (Some [])) (put_at s k (Some (record { began = s.store.clock; pending = [] })) no_track)
-    begun_kept =
-        put_at_lem (Some (record { began = s.store.clock; pending = [] })) no_track (Some [])
-        (record { noted = refl; overwritten = refl; records = refl; pending = refl; valid = tt; few = (omega arith, omega arith) })
-        (λ q j ne a b. both_ways false refl a)
-        (let e = pending_at_lem (Some (record { began = s.store.clock; pending = [] })) in omega (arith, h.room, e))
+    begun_kept = grind (arith, common_steps, put_at_lem, pending_at_lem)
 
     pub shut_kept : Tied f size (with_current m k None) (put_at s k None no_track)
-    shut_kept = put_at_lem None no_track None tt (λ q j ne a b. both_ways false refl a) (let e = pending_at_lem None in omega (arith, h.room, e))
+    shut_kept = grind (arith, common_steps, put_at_lem, pending_at_lem)
 
     module _ (o : Console E) (open' : console_at s.store k ≡ Some o) where
       row : Row f size m.done o.pending (acts_at m k) (track_at s k)
@@ -76,7 +72,7 @@ module _ {E : Type 0} where
 
       pub version_kept : (r : ℕ) (v : Version E) → r < size → own_at o.pending r ≡ None → Has v (chain_of f m.done r) → notes (track_at s k) v.number ≡ true
           → Tied f size (with_current m k (Some (acts_at m k ++ (took_version r v ∷ [])))) (inside s s.store.consoles (set s.tracks k (noted (track_at s k) v.number)))
-      version_kept r v l q i notes' = grind (arith, common_steps, Row, length-set, get_or-set_other, get_or-set_same, version_row)
+      version_kept r v l q i notes' = grind (arith, common_steps, length-set, get_or-set_other, get_or-set_same, version_row)
 
       -- a write to record r, which overwrites its newest version
       module _ (rules : Rules) (r : ℕ) (e : E) (l : r < size) (space : full s k r ≡ false) (lets : Lets rules s o r) where
@@ -106,7 +102,7 @@ module _ {E : Type 0} where
         track_room a = grind (arith, common_steps, member_holds)
 
         free : (q j : ℕ) → (j ≡ k → ⊥) → holds (replaced o.pending r e) q ≡ true → console_holds (console_at s.store j) q ≡ true → ⊥
-        free q j ne a b = grind (arith, common_steps, console_holds, held_replaced, Lets, second, first, both_ways, none_any)
+        free q j ne a b = grind (arith, common_steps, console_holds, held_replaced, none_any)
 
         long : Lets rules s o r → s.store.next + (pending_in s.store.consoles + length (replaced o.pending r e)) ≤ s.store.room + length o.pending
         long (second yes') =
