@@ -1,6 +1,7 @@
 -- How the answers of the store lead to the steps of the log.
-use Rattle.std.proofs.Common.{◌≡◌, ℕ, ◌<◌, ◌≤◌, Bool, true, false, cond, not, ◌&&◌, ◌||◌, eqb, ltb, leb, List, [], ◌∷◌, map, length, get_or, set, is_some, Some, None, Option, sym, refl, ap, ◌∙◌, arith}
-use Rattle.std.proofs.lemmas.Bool.{ltb-true, cond-true, cond-false}
+use Rattle.std.proofs.lemmas.Grind.{common_steps}
+use Rattle.std.proofs.Common.{◌≡◌, ℕ, ◌<◌, ◌≤◌, Bool, true, false, cond, not, ◌&&◌, ltb, leb, List, [], ◌∷◌, map, length, get_or, set, is_some, Some, None, Option, sym, refl, ap, ◌∙◌, arith}
+use Rattle.std.proofs.lemmas.Bool.{cond-true, cond-false}
 use Rattle.std.proofs.Math.Bool.{and-false}
 use Rattle.std.proofs.lemmas.List.{map-set, get_or-map, set-get_or}
 use Rattle.store.specs.declared.Code.{Code}
@@ -27,11 +28,7 @@ refused_same s st c (refuses d) f e = ap (λ p. p.1) e
 module _ {E : Type 0} where
   own_holds : (ps : List (Pending E)) (r : ℕ) → is_some (store.own_at ps r) ≡ store.holds ps r
   own_holds [] r = refl
-  own_holds (p ∷ ps) r = go (eqb p.at r) (own_holds ps r)
-    where
-      go : (b : Bool) → is_some (store.own_at ps r) ≡ store.holds ps r → is_some (cond b (Some p.entry) (store.own_at ps r)) ≡ (b || store.holds ps r)
-      go true h = refl
-      go false h = h
+  own_holds (p ∷ ps) r = grind (arith, common_steps, own_holds ps r)
 
   -- what a read that is granted tells of the console and of the record
   record Granted-read (rules : Rules) (s : State E) (k r : ℕ) (x : Shown E) : Type 0 where
@@ -42,23 +39,11 @@ module _ {E : Type 0} where
     seen : x ≡ store.shown_at rules s console r
 
   read_tells : (rules : Rules) (s : State E) (k r : ℕ) (x : Shown E) → gives x ≡ store.read_of rules s k r → Granted-read rules s k r x
-  read_tells rules s k r x a = go (ltb k 16) refl (store.console_at s k) refl (ltb r (length s.chains)) refl
-    where
-      go : (b : Bool) → ltb k 16 ≡ b → (o : Option (Console E)) → store.console_at s k ≡ o → (d : Bool) → ltb r (length s.chains) ≡ d → Granted-read rules s k r x
-      go false e o q d f = absurd (let z = rw e at a in cc)
-      go true e None q d f = absurd (let z = rw (e, q) at a in cc)
-      go true e (Some c) q false f = absurd (let z = rw (e, q, f) at a in cc)
-      go true e (Some c) q true f = record { console = c; near = e; held = q; inside = f; seen = let z = rw (e, q, f) at a in cc }
+  read_tells rules s k r x a = grind (arith, common_steps)
 
   -- a commit that the store grants is not past the end of the day
   pub commit_tells : (s : State E) (k n : ℕ) (st : State E) → (gives n, st) ≡ store.commit_of s k → s.clock < 4000
-  commit_tells s k n st a = go (ltb k 16) refl (store.console_at s k) refl (ltb s.clock 4000) refl
-    where
-      go : (b : Bool) → ltb k 16 ≡ b → (o : Option (Console E)) → store.console_at s k ≡ o → (d : Bool) → ltb s.clock 4000 ≡ d → s.clock < 4000
-      go false e o q d f = absurd (let z = rw e at (ap (λ p. p.0) a) in cc)
-      go true e None q d f = absurd (let z = rw (e, q) at (ap (λ p. p.0) a) in cc)
-      go true e (Some c) q false f = absurd (let z = rw (e, q, f) at (ap (λ p. p.0) a) in cc)
-      go true e (Some c) q true f = ltb-true s.clock 4000 f
+  commit_tells s k n st a = grind (arith, common_steps)
 
   own_held : (rules : Rules) (s : State E) (c : Console E) (r : ℕ) (x : E) → own_entry x ≡ store.shown_at rules s c r → store.holds c.pending r ≡ true
   own_held rules s c r x e = go (store.own_at c.pending r) refl
@@ -103,9 +88,7 @@ module _ {E : Type 0} where
         ap f same ∙ (ap (writing s k r) a ∙ write_is e h)
 
     pub few_written : (t : Track) (b : Bool) → t ≡ track_at s k → b ≡ leb 16 (length t.writes) → b ≡ false → full s k r ≡ false
-    few_written t b e q f =
-        ap (λ (u : Track). leb 16 (length u.writes) && not (store.holds (store.pending_at s.store k) r)) (sym e)
-        ∙ ap (λ (x : Bool). x && not (store.holds (store.pending_at s.store k) r)) (sym q ∙ f)
+    few_written t b e q f = grind (arith, common_steps)
 
     pub own_written : (x : E) → gives (own_entry x) ≡ store.read_of rules s.store k r → full s k r ≡ false
     own_written x a =
@@ -142,8 +125,4 @@ tracks_note ts k t u n e f = rw e (go (notes u n) f)
 -- a transaction's low mark is at most its stamp
 pub low_le : (ms : List Mark) (c : ℕ) (ns : List ℕ) → low_mark ms c ns ≤ c
 low_le ms c [] = omega arith
-low_le ms c (n ∷ ns) = let r = low_le ms (low_or c (mark_at ms n).low) ns in let q = low_or_le c (mark_at ms n).low in omega (arith, r, q)
-  where
-    low_or_le : (l : ℕ) (o : Option ℕ) → low_or l o ≤ l
-    low_or_le l None = omega arith
-    low_or_le l (Some m) = omega arith
+low_le ms c (n ∷ ns) = grind (arith, common_steps, low_le ms (low_or c (mark_at ms n).low) ns)

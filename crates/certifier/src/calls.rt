@@ -1,9 +1,8 @@
 // The calls of a log. The store runs its own checks first, and its refusals are passed up.
-ghost use Rattle.std.specs.Prelude.{◌≡◌, ℕ, ◌%◌};
+ghost use Rattle.std.specs.Prelude.{◌≡◌};
 ghost use Rattle.store.specs.Refusals as store;
 ghost use Rattle.certifier.specs.Refusals.{code_of, passed};
-ghost use Rattle.certifier.specs.Marking.{verdict_of};
-ghost use Rattle.certifier.specs.Meaning.{track_at, begin_step, read_step, write_step, commit_step, drop_step, step};
+ghost use Rattle.certifier.specs.Meaning.{begin_step, read_step, write_step, commit_step, drop_step, step};
 ghost use Rattle.certifier.specs.Logs.{log_state, begin_reply, read_reply, write_reply, commit_reply, drop_reply, reply_of};
 
 use crate::log::Log;
@@ -21,9 +20,7 @@ impl From<Refusal> for LogRefusal {
             Refusal::Shut => LogRefusal::Shut,
             Refusal::Open => LogRefusal::Open,
             Refusal::DayFull => LogRefusal::DayFull,
-            Refusal::Held => LogRefusal::Store(Refusal::Held),
-            Refusal::Stale => LogRefusal::Store(Refusal::Stale),
-            Refusal::NoRoom => LogRefusal::Store(Refusal::NoRoom),
+            Refusal::Held | Refusal::Stale | Refusal::NoRoom => LogRefusal::Store(e),
         }
     }
 }

@@ -1,5 +1,5 @@
 // The table of marks: row n is what is kept of version n.
-ghost use Rattle.std.specs.Prelude.{ℕ, ◌≤◌, vec_capacity};
+ghost use Rattle.std.specs.Prelude.{◌≤◌, vec_capacity};
 
 use crate::Mark;
 

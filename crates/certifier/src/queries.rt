@@ -69,7 +69,7 @@ impl<S: Store<E>, E: Copy> Log<S, E> {
         ensures { (answer_of result, list.new) ≡ order_of (log_state S.Store.state self.now) list.old }
     {
         let count = self.ranks.count();
-        if list.len() < count as usize {
+        if list.len() < usize::from(count) {
             return Err(LogRefusal::ShortList);
         }
         self.ranks.fill(list);

@@ -1,5 +1,5 @@
 -- One more accepted read or write of an open transaction: what its track, its pending entries and its history have in common.
-use Rattle.std.proofs.Common.{◌≡◌, ℕ, ◌<◌, ◌≤◌, true, false, cond, not, ◌||◌, leb, List, [], ◌∷◌, ◌++◌, length, Some, None, Option, sym, refl, ap, ◌∙◌, subst, arith}
+use Rattle.std.proofs.Common.{◌≡◌, ℕ, ◌<◌, ◌≤◌, true, false, cond, not, ◌||◌, leb, List, [], ◌∷◌, ◌++◌, length, Some, None, Option, refl, subst, arith}
 use Rattle.std.proofs.lemmas.Grind.{common_steps}
 use Rattle.std.proofs.lemmas.List.{length_push}
 use Rattle.std.proofs.lemmas.Bool.{cond_both, leb-false}
@@ -8,7 +8,7 @@ use Rattle.store.specs.declared.Pending.{Pending}
 use Rattle.store.specs.Meaning.{own_at, replaced}
 use Rattle.certifier.specs.declared.Over.{Over}
 use Rattle.certifier.specs.Marking.{Track, overs_of, member, note_in, notes, noted}
-use Rattle.runs.specs.History.{Act, Transaction, note_some, gather, read_by, overwritten_by, written_by, read_in, overwritten_in, records_in}
+use Rattle.runs.specs.History.{Act, Transaction, note_some, gather, read_in, overwritten_in, records_in}
 use Rattle.runs.specs.History.Act.{took_own, took_version, put}
 use Rattle.runs.specs.Law.{Has}
 use Rattle.runs.proofs.Goods.{pending_after, chain_of, newest_of, Valid}
@@ -51,25 +51,11 @@ module _ {E : Type 0} where
     at_pending P h = subst P w.pending h
 
     pub own_row : (r : ℕ) (e : E) → r < size → own_at ps r ≡ Some e → Row first size ts ps (acts ++ (took_own r e ∷ [])) t
-    own_row r e l h = record {
-      noted = w.noted ∙ sym (gather_push read_by [] acts (took_own r e));
-      overwritten = w.overwritten ∙ sym (gather_push overwritten_by [] acts (took_own r e));
-      records = w.records ∙ sym (gather_push written_by [] acts (took_own r e));
-      pending = w.pending ∙ sym (pending_push [] acts (took_own r e));
-      valid = valid_push first size ts [] acts (took_own r e) w.valid (l, at_pending (λ qs. own_at qs r ≡ Some e) h, tt);
-      few = w.few;
-    }
+    own_row r e l h = grind (arith, common_steps, gather_push, pending_push, valid_push, at_pending)
 
     pub version_row : (r : ℕ) (v : Version E) → r < size → own_at ps r ≡ None → Has v (chain_of first ts r) → notes t v.number ≡ true
         → Row first size ts ps (acts ++ (took_version r v ∷ [])) (noted t v.number)
-    version_row r v l h k room = record {
-      noted = ap (note_in v.number) w.noted ∙ sym (gather_push read_by [] acts (took_version r v));
-      overwritten = w.overwritten ∙ sym (gather_push overwritten_by [] acts (took_version r v));
-      records = w.records ∙ sym (gather_push written_by [] acts (took_version r v));
-      pending = w.pending ∙ sym (pending_push [] acts (took_version r v));
-      valid = valid_push first size ts [] acts (took_version r v) w.valid (l, at_pending (λ qs. own_at qs r ≡ None) h, k, tt);
-      few = (note_few v.number t.noted w.few.0 room, w.few.1);
-    }
+    version_row r v l h k room = grind (arith, common_steps, gather_push, pending_push, valid_push, at_pending, note_few)
 
     -- a write to record r, which overwrites version n: n is among the overwritten exactly where r is among the written
     module _ (r n : ℕ) (e : E) (l : r < size) (is : n ≡ (newest_of first (chain_of first ts r)).number)
@@ -86,15 +72,4 @@ module _ {E : Type 0} where
       both = grind (arith, common_steps)
 
       pub write_row : Row first size ts (replaced ps r e) (acts ++ (put r e n ∷ [])) (record { noted = t.noted; writes = writes })
-      write_row = record {
-        noted = w.noted ∙ sym (gather_push read_by [] acts (put r e n));
-        overwritten = both.1 ∙ ap (note_in n) w.overwritten ∙ sym (gather_push overwritten_by [] acts (put r e n));
-        records = both.0 ∙ ap (note_in r) w.records ∙ sym (gather_push written_by [] acts (put r e n));
-        pending = ap (λ qs. replaced qs r e) w.pending ∙ sym (pending_push [] acts (put r e n));
-        valid = valid_push first size ts [] acts (put r e n) w.valid (l, is, tt);
-        few = (
-          w.few.0,
-          cond_both (member r (records_of t.writes)) t.writes (t.writes ++ (record { at = r; version = n } ∷ [])) (λ (ws : List Over). length ws ≤ 16) (λ _. w.few.1)
-              (λ a. omega (arith, length_push t.writes (record { at = r; version = n }), leb-false 16 (length t.writes) (room a))),
-        );
-      }
+      write_row = grind (arith, common_steps, gather_push, both, pending_push, valid_push, cond_both, records_of, length_push, leb-false)

@@ -1,11 +1,11 @@
 -- The chains of versions that a history makes: their numbers and makers, and what a transaction read and overwrote of them.
-use Rattle.std.proofs.Common.{◌≡◌, ℕ, zero, suc, ◌+◌, ◌-◌, ◌<◌, ◌≤◌, Bool, true, false, cond, ◌||◌, eqb, ltb, leb, ◌⊎◌, List, [], ◌∷◌, ◌++◌, map, length, get_or, Some, None, Option, sym, refl, ap, ◌∙◌, subst, inl, inr, arith}
+use Rattle.std.proofs.Common.{◌≡◌, ℕ, zero, suc, ◌+◌, ◌<◌, ◌≤◌, Bool, true, false, cond, ◌||◌, eqb, ◌⊎◌, List, [], ◌∷◌, ◌++◌, map, length, get_or, Some, None, Option, sym, refl, ap, ◌∙◌, subst, inl, inr, arith}
 use Rattle.std.proofs.lemmas.Bool.{eqb-true, eqb-false, le-leb, lt-ltb, and_from, or_parts, both_ways, cond_both, cases_Bool}
 use Rattle.std.proofs.lemmas.Grind.{common_steps}
 use Rattle.std.proofs.lemmas.List.{append-nil, length-map}
 use Rattle.store.specs.declared.Version.{Version}
 use Rattle.store.specs.declared.Pending.{Pending}
-use Rattle.store.specs.Meaning.{own_at, holds, replaced, origin}
+use Rattle.store.specs.Meaning.{own_at, holds, replaced}
 use Rattle.certifier.specs.Marking.{member, note_in}
 use Rattle.runs.specs.History.{Act, Transaction, note_some, gather, read_by, overwritten_by, written_by, overwritten_in, records_in, HasRead, HasOverwritten, HasMade, low_of}
 use Rattle.runs.specs.History.Act.{took_own, took_version, put}
@@ -57,9 +57,7 @@ module _ {E : Type 0} (f : Act E → Option ℕ) where
 
   pub gathers : (acts : List (Act E)) (v : ℕ) (ns : List ℕ) (a : Act E) → Has a acts → f a ≡ Some v → member v (gather f ns acts) ≡ true
   gathers [] v ns a h e = elim h [ ]
-  gathers (b ∷ rest) v ns a (inl q) e =
-      let k : note_some ns (f b) ≡ note_in v ns = ap (note_some ns) (ap f (sym q) ∙ e) in
-      gathers_on rest v (note_some ns (f b)) (subst (λ l. member v l ≡ true) (sym k) (note_member v v ns (inl refl)))
+  gathers (b ∷ rest) v ns a (inl q) e = grind (arith, common_steps, gathers_on, note_member)
   gathers (b ∷ rest) v ns a (inr h) e = gathers rest v (note_some ns (f b)) a h e
 
   pub gathered : (acts : List (Act E)) (v : ℕ) (ns : List ℕ) → member v (gather f ns acts) ≡ true → (member v ns ≡ true) ⊎ ((a : Act E) × Has a acts × (f a ≡ Some v))
@@ -97,17 +95,7 @@ module _ {E : Type 0} where
 
   unique_replaced : (ps : List (Pending E)) (r : ℕ) (e : E) → Unique ps → Unique (replaced ps r e)
   unique_replaced [] r e u = (refl, tt)
-  unique_replaced (p ∷ ps) r e u = go (unique_replaced ps r e u.1) (eqb p.at r) refl
-    where
-      go : Unique (replaced ps r e) → (b : Bool) → eqb p.at r ≡ b → Unique (cond b (record { at = r; entry = e } ∷ ps) (p ∷ replaced ps r e))
-      go ih true k = (subst (λ n. holds ps n ≡ false) (eqb-true p.at r k) u.0, u.1)
-      go ih false k = (
-        not_true_false (holds (replaced ps r e) p.at) (λ a. elim (held_replaced ps r p.at e a) [
-          | inl s ↦ eqb-false p.at r k (sym s)
-          | inr s ↦ both_ways (holds ps p.at) u.0 s
-        ]),
-        ih,
-      )
+  unique_replaced (p ∷ ps) r e u = grind (arith, common_steps, unique_replaced ps r e u.1, eqb-true, not_true_false, held_replaced, eqb-false)
 
   pub unique_after : (ps : List (Pending E)) (acts : List (Act E)) → Unique ps → Unique (pending_after ps acts)
   unique_after ps [] u = u
@@ -230,11 +218,7 @@ module _ {E : Type 0} where
   AddsTo t r = Adds t.grant.stamp t.first (pending_of t) r
 
   pub adds_made : (t : Transaction E) (r : ℕ) (a : AddsTo t r) → HasMade t a.version.number
-  adds_made t r a =
-      let c = pending_count t.acts in
-      let n = a.version.number in
-      and_from (leb t.first n) (ltb n (t.first + length (records_in t.acts))) (le-leb t.first n (omega (arith, a.number)))
-      (lt-ltb n (t.first + length (records_in t.acts)) (omega (arith, a.under)))
+  adds_made t r a = grind (arith, common_steps, pending_count, and_from, le-leb, lt-ltb)
 
   -- one commit more: the chain of r stays, or has one version more
   pub grows : (first : E) (t : Transaction E) (ts : List (Transaction E)) (r : ℕ)
@@ -293,7 +277,7 @@ module _ {E : Type 0} where
   newest_in first ts r = newest_of first (chain_of first ts r)
 
   pub newest_has : (first : E) (ts : List (Transaction E)) (r : ℕ) → Has (newest_in first ts r) (chain_of first ts r)
-  newest_has first ts r = has_get_d (chain_of first ts r) (length (chain_of first ts r) - 1) (origin first) (omega (arith, chain_some first ts r))
+  newest_has first ts r = grind (arith, common_steps, has_get_d, chain_of, chain_some)
 
   newest_new : (first : E) (t : Transaction E) (ts : List (Transaction E)) (r : ℕ) (a : AddsTo t r)
       → chain_of first (t ∷ ts) r ≡ chain_of first ts r ++ (a.version ∷ []) → newest_in first (t ∷ ts) r ≡ a.version
@@ -332,10 +316,7 @@ module _ {E : Type 0} (first : E) (size : ℕ) where
   same_stamp (w ∷ ws) g u t (inr h) (inr k) e = same_stamp ws g.1 u t h k e
 
   pub stamp_under : (ts : List (Transaction E)) → Good first size ts → (r : ℕ) (v : Version E) → Has v (chain_of first ts r) → v.stamp ≤ length ts
-  stamp_under ts g r v h = elim (made_by_lem first ts r v h) [
-    | inl e ↦ omega (arith, ap (λ (x : Version E). x.stamp) e)
-    | inr m ↦ omega (arith, m.stamp, stamped ts g m.maker m.here)
-  ]
+  stamp_under ts g r v h = grind (arith, common_steps, made_by_lem, stamped)
 
   -- numbers are below the next one, and each is in one chain only
   pub number_under : (ts : List (Transaction E)) → Good first size ts → (r : ℕ) (v : Version E) → r < size → Has v (chain_of first ts r) → v.number < next_of size ts
@@ -401,10 +382,7 @@ module _ {E : Type 0} {first : E} {size : ℕ} {t : Transaction E} {ts : List (T
       omega (arith, k.3, number_under first size ts g k.0 (newest_in first ts k.0) k.1 (newest_has first ts k.0))
 
   pub overwrites : (r : ℕ) → Wrote t r → (r < size) × HasOverwritten t (newest_in first ts r).number
-  overwrites r w =
-      let a = write_act_lem t r w in
-      let k = valid_put first size ts [] t.acts f.valid r a.0 a.1 a.2 in
-      (k.0, subst (λ n. HasOverwritten t n) k.1 (act_overwrites t r a.0 a.1 a.2))
+  overwrites r w = grind (arith, common_steps, write_act_lem, valid_put, act_overwrites)
 
 module _ {E : Type 0} (first : E) (size : ℕ) where
   -- no version from the next number on is overwritten, and no newest version is

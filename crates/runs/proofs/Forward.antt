@@ -129,9 +129,7 @@ module _ {E : Type 0} (first : E) (size : ℕ) where
 
   pub low_stamp : (ts : List (Transaction E)) → Good first size ts → (u : Transaction E) → Has u ts → u.grant.low ≤ u.grant.stamp
   low_stamp [] g u h = elim h [ ]
-  low_stamp (t ∷ ts) g u (inl e) =
-      subst (λ (x : Transaction E). x.grant.low ≤ x.grant.stamp) (sym e)
-      (omega (arith, commit_stamp g.0, ap (λ q. q.low) g.0.grant, lowest_le ts (length ts + 1) (read_in t.acts)))
+  low_stamp (t ∷ ts) g u (inl e) = grind (arith, common_steps, commit_stamp, lowest_le)
   low_stamp (t ∷ ts) g u (inr h) = low_stamp ts g.1 u h
 
   -- what was read or overwritten is below the next number
@@ -149,11 +147,7 @@ module _ {E : Type 0} (first : E) (size : ℕ) where
   low_overwritten : (ts : List (Transaction E)) → Good first size ts → (u : Transaction E) (v : ℕ) → Has u ts → HasOverwritten u v → low_of ts v ≡ Some u.grant.low
   low_overwritten [] g u v h m = elim h [ ]
   low_overwritten (t ∷ ts) g u v (inl e) m = grind (arith, common_steps)
-  low_overwritten (t ∷ ts) g u v (inr h) m =
-      let e : low_of ts v ≡ Some u.grant.low = low_overwritten ts g.1 u v h m in
-      cond_both (member v (overwritten_in t.acts)) (Some t.grant.low) (low_of ts v) (λ x. x ≡ Some u.grant.low)
-      (λ o. absurd (none≢some (low_of ts v) u.grant.low (bare g.0 g.1 v o) e))
-      (λ _. e)
+  low_overwritten (t ∷ ts) g u v (inr h) m = grind (arith, common_steps, low_overwritten ts g.1 u v h m, cond_both, none≢some, bare)
 
   -- from an earlier commit to the newest
   to_newest : (t : Transaction E) (ts : List (Transaction E)) → Good first size (t ∷ ts) → (u : Transaction E) (v : ℕ) → Has u ts → DependsBy u t v → Before u t
@@ -208,10 +202,7 @@ module _ {E : Type 0} (first : E) (size : ℕ) where
   stamps (t ∷ ts) g (suc i) d h = omega (arith, stamps ts g.1 i d (omega arith))
 
   pub total : (done : List (Transaction E)) → Good first size done → (u t : Transaction E) → Has u done → Has t done → (u ≡ t) ⊎ (Before u t ⊎ Before t u)
-  total done g u t h k = elim (cases_eq u.grant.stamp t.grant.stamp) [
-    | inl e ↦ inl (same_stamp first size done g u t h k e)
-    | inr n ↦ inr (before_either u t n)
-  ]
+  total done g u t h k = grind (arith, common_steps, cases_eq, same_stamp)
 
   pub sorted : (done : List (Transaction E)) → Good first size done → Sorted (in_rank done)
   sorted [] g = tt

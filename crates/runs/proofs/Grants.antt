@@ -154,12 +154,7 @@ module _ {E : Type 0} where
   valid_grow f size t ts ps [] free v = tt
   valid_grow f size t ts ps (took_own r e ∷ rest) free v = (v.0, v.1, valid_grow f size t ts ps rest free v.2)
   valid_grow f size t ts ps (took_version r x ∷ rest) free v = (v.0, v.1, has_front x (chain_of f ts r) _ v.2, valid_grow f size t ts ps rest free v.3)
-  valid_grow f size t ts ps (put r e n ∷ rest) free v =
-      let here : holds (pending_after (replaced ps r e) rest) r ≡ true = held_after (replaced ps r e) rest r (held_again ps r r e (inl refl)) in
-      let none : added_by t.grant.stamp t.first (pending_after [] t.acts) r ≡ [] =
-      added_none t.grant.stamp t.first (pending_after [] t.acts) r (elim (cases_Bool (holds (pending_after [] t.acts) r)) [ inl yes' ↦ absurd (free r here yes') | inr no' ↦ no' ]) in
-      let same : chain_of f (t ∷ ts) r ≡ chain_of f ts r = ap (λ (x : List (Version E)). chain_of f ts r ++ x) none ∙ append-nil (chain_of f ts r) in
-      (v.0, v.1 ∙ sym (ap (λ (c : List (Version E)). (newest_of f c).number) same), valid_grow f size t ts (replaced ps r e) rest free v.2)
+  valid_grow f size t ts ps (put r e n ∷ rest) free v = grind (arith, common_steps, valid_grow f size t ts (replaced ps r e) rest free v.2, pending_after, held_after, held_again, added_by, added_none, cases_Bool, chain_of, append-nil)
 
   -- the log and the history with what a granted commit adds
   abbrev pub grown_log : LogState E → List (Pending E) → Track → Grant → LogState E
@@ -215,9 +210,6 @@ module _ {E : Type 0} where
     made_old : (v : ℕ) → v < n → made_by T v ≡ false
     made_old v l = grind (arith, common_steps)
 
-    made_new : (v : ℕ) → n ≤ v → v < n + length (records_in acts) → made_by T v ≡ true
-    made_new v l u = grind (arith, common_steps)
-
     low_new : (v : ℕ) → n ≤ v → low_of (T ∷ ts) v ≡ None
     low_new v l =
         cond_both (member v (overwritten_in acts)) (Some g.low) (low_of ts v) (λ x. x ≡ None)
@@ -225,49 +217,19 @@ module _ {E : Type 0} where
         (λ _. low_past f size ts h.good v l)
 
     mark_before : (v : ℕ) → v < n → mark_at (marked s.places s.marks g.stamp g.low t) v ≡ mark_of (T ∷ ts) v
-    mark_before v l =
-        let R : Bool → Bool → ℕ → Mark = λ ow rd x. record { stamp = x; high = max x (max (cond rd g.stamp 0) (read_stamp ts v)); low = cond ow (Some g.low) (low_of ts v) } in
-        marked_old s.places s.marks g.stamp g.low t room v (omega (arith, h.counted))
-        ∙ (mark_old (stamp_of ts v) (read_stamp ts v) g.stamp g.low (low_of ts v) (member v t.noted) (member v (overs_of t.writes))
-        (omega (arith, stamp, stamp_bound f size ts h.good v)) (omega (arith, stamp, read_bound f size ts h.good v)) (mark_at s.marks v) (h.marks v l)
-        ∙ (ap (λ x. R x (member v t.noted) (stamp_of ts v)) (ap (member v) w.overwritten)
-        ∙ (ap (λ x. R (member v (overwritten_in acts)) x (stamp_of ts v)) (ap (member v) w.noted)
-        ∙ ap (λ x. R (member v (overwritten_in acts)) (member v (read_in acts)) x) (sym (cond-false (made_by T v) g.stamp (stamp_of ts v) (made_old v l))))))
+    mark_before v l = grind (arith, common_steps, stamp, marked_old, room, mark_old, stamp_bound, read_bound, cond-false, made_old)
 
     mark_after : (v : ℕ) → n ≤ v → v < n + length (records_in acts) → mark_at (marked s.places s.marks g.stamp g.low t) v ≡ mark_of (T ∷ ts) v
-    mark_after v l u =
-        let R : ℕ → Mark = λ x. record { stamp = x; high = max x (max (cond (member v (read_in acts)) g.stamp 0) (read_stamp ts v)); low = low_of (T ∷ ts) v } in
-        marked_new s.places s.marks g.stamp g.low t room v (omega (arith, h.counted)) (omega (arith, h.counted, count_writes))
-        ∙ (mark_new (read_stamp ts v) g.stamp (member v (read_in acts)) (omega (arith, stamp, read_bound f size ts h.good v)) (low_of (T ∷ ts) v) (low_new v l)
-        ∙ ap R (sym (cond-true (made_by T v) g.stamp (stamp_of ts v) (made_new v l u))))
+    mark_after v l u = grind (arith, common_steps, stamp, marked_new, room, count_writes, mark_new, read_bound, low_new, cond-true)
 
     chain_grown : (q : ℕ) → q < size → get_or (appended s.store.chains (s.store.clock + 1) s.store.next ps) q [] ≡ chain_of f (T ∷ ts) q
-    chain_grown q l =
-        let c : s.store.clock + 1 ≡ g.stamp = omega (arith, h.clock, stamp) in
-        let x : s.store.next ≡ m.next = h.unused ∙ sym h.next in
-        let old = chain_of f ts q in
-        appended_at s.store.chains (s.store.clock + 1) s.store.next ps q (omega (arith, h.records))
-        ∙ (ap (λ (y : List (Version E)). y ++ added_by (s.store.clock + 1) s.store.next ps q) (h.chains q l)
-        ∙ (ap (λ y. old ++ added_by y s.store.next ps q) c
-        ∙ (ap (λ y. old ++ added_by g.stamp y ps q) x
-        ∙ ap (λ (y : List (Pending E)). old ++ added_by g.stamp m.next y q) w.pending)))
+    chain_grown q l = grind (arith, common_steps, stamp, chain_of, appended_at, added_by)
 
     under : AllUnder (length s.store.chains) ps
-    under =
-        let P : ℕ → Type 0 = λ x. AllUnder x ps in
-        let Q : List (Pending E) → Type 0 = λ qs. AllUnder size qs in
-        subst P (sym h.records) (subst Q (sym w.pending) (under_after f size ts [] acts w.valid tt))
+    under = grind (arith, common_steps, under_after)
 
     row_grown : (xs : List (Pending E)) (others : List (Act E)) (u : Track) → ((q : ℕ) → holds ps q ≡ true → holds xs q ≡ true → ⊥) → Row f size ts xs others u → Row f size (T ∷ ts) xs others u
-    row_grown xs others u clear x = record {
-      noted = x.noted;
-      overwritten = x.overwritten;
-      records = x.records;
-      pending = x.pending;
-      valid = valid_grow f size T ts [] others
-          (λ q a b. clear q (ap (λ (qs : List (Pending E)). holds qs q) w.pending ∙ b) (ap (λ (qs : List (Pending E)). holds qs q) x.pending ∙ a)) x.valid;
-      few = x.few;
-    }
+    row_grown xs others u clear x = grind (arith, common_steps, valid_grow)
 
     match_grown : (o : Option (Console E)) (p : Option (List (Act E))) (u : Track) → ((q : ℕ) → holds ps q ≡ true → console_holds o q ≡ true → ⊥) → Matches f size ts o p u → Matches f size (T ∷ ts) o p u
     match_grown None None u clear x = tt

@@ -3,7 +3,6 @@ use Rattle.std.proofs.lemmas.Grind.{common_steps}
 use Rattle.std.proofs.Common.{◌≡◌, ℕ, ◌+◌, ◌<◌, List, [], ◌∷◌, map, vec_items, Ok, sym, refl, ap, ◌∙◌, subst, ap₂, inl, arith}
 use Rattle.store.specs.Meaning.{State, Rules, Inside, Range, newest_at}
 use Rattle.certifier.specs.declared.Call.{Call}
-use Rattle.certifier.specs.Ranking.{joined}
 use Rattle.certifier.specs.Meaning.{LogState, Reply, answers_of, after, opened}
 use Rattle.runs.specs.History.{Event, Transaction, Summary, entries_in, history_of, unused, summary_of}
 use Rattle.certifier.specs.declared.log.Log.{Log}
@@ -25,21 +24,13 @@ use Rattle.runs.proofs.Strikes.{struck}
 module _ {E : Type 0} where
   module _ {first : E} {size : ℕ} {m : Summary E} {s : LogState E} (h : Tied first size m s) where
     rank : Ranked s m.done
-    rank = record {
-      forward = forward first size m.done h.good;
-      acyclic = acyclic first size m.done h.good;
-      stamps = stamps first size m.done h.good;
-      total = total first size m.done h.good;
-      sorted = sorted first size m.done h.good;
-      counted = ap (λ x. x.count) h.ranks ∙ counted first size m.done h.good h.day;
-      order = ap (λ x. joined x.by_low) h.ranks ∙ order first size m.done h.good h.day;
-    }
+    rank = grind (arith, common_steps, forward, acyclic, stamps, total, sorted, counted, order)
 
     newest : (r : ℕ) → r < size → (newest_of first (chain_of first m.done r)).entry ≡ (newest_at s.store r).entry
     newest r l = grind (arith, common_steps)
 
     serial : Serial size first s m.done
-    serial = record { reads = replays first size m.done h.good; ends = λ r l. ends first size m.done h.good r l ∙ newest r l }
+    serial = grind (arith, common_steps, replays, ends)
 
   -- what a day file keeps of each commit is in its range
   made_is : (first : E) (size : ℕ) (done : List (Transaction E)) → Good first size done → made_in size done ≡ next_of size done

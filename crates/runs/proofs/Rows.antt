@@ -1,9 +1,8 @@
 -- The table of marks: what a commit takes from it, and what it leaves in each row.
 use Rattle.std.proofs.lemmas.Grind.{common_steps}
-use Rattle.std.proofs.Common.{◌≡◌, ℕ, ◌+◌, ◌-◌, ◌<◌, ◌≤◌, max, Bool, true, false, cond, ◌||◌, eqb, ltb, leb, List, [], ◌∷◌, ◌++◌, map, length, set, replicate, Some, Option, sym, refl, ap, ◌∙◌, ap₂, arith}
+use Rattle.std.proofs.Common.{◌≡◌, ℕ, ◌+◌, ◌<◌, ◌≤◌, max, Bool, true, false, cond, ◌||◌, eqb, ltb, leb, List, [], ◌∷◌, ◌++◌, map, length, set, replicate, Some, Option, sym, refl, ap, ◌∙◌, arith}
 use Rattle.std.proofs.lemmas.List.{append-nil, append_assoc, length-set, length-append, length_push, length-replicate, get_or_append_left, get_or-append_right, get_or-replicate}
 use Rattle.std.proofs.lemmas.Bool.{lt-ltb, cond-true}
-use Rattle.certifier.specs.declared.Grant.{Grant}
 use Rattle.certifier.specs.declared.Mark.{Mark}
 use Rattle.certifier.specs.declared.Over.{Over}
 use Rattle.certifier.specs.Marking as marking
@@ -43,11 +42,7 @@ high_right_lem ms h (w ∷ ws) = let r = high_right_lem ms (max h (mark_at ms w.
 
 pub verdict_is : (ms : List Mark) (c : ℕ) (t : Track)
     → verdict_of ms c t ≡ record { stamp = c; low = low_right ms c t.noted; high = max (stamp_right ms t.noted) (high_right ms (overs_of t.writes)) }
-verdict_is ms c t =
-    let G : ℕ → ℕ → Grant = λ x y. record { stamp = c; low = x; high = y } in
-    let a = high_right_lem ms (top_stamp ms 0 t.noted) t.writes in
-    let b = stamp_right_lem ms 0 t.noted in
-    ap₂ G (low_right_lem ms c t.noted) (omega (arith, a, b))
+verdict_is ms c t = grind (arith, common_steps, high_right_lem, stamp_right_lem, low_right_lem)
 
 -- rows changed at some places
 abbrev changed : (Mark → Mark) → List Mark → List ℕ → List Mark
@@ -106,28 +101,19 @@ module _ (places : ℕ) (ms : List Mark) (c l : ℕ) (t : Track) (room : length 
   old = changed (lower l) (changed (raise c) ms t.noted) (overs_of t.writes)
 
   old_length : length old ≡ length ms
-  old_length = length_changed (lower l) (changed (raise c) ms t.noted) (overs_of t.writes) ∙ length_changed (raise c) ms t.noted
+  old_length = grind (arith, common_steps, length_changed)
 
   marked_is : marking.marked places ms c l t ≡ old ++ replicate (length t.writes) (new_mark c)
-  marked_is =
-      let e : lowered (raised ms c t.noted) l t.writes ≡ old = lowered_is (raised ms c t.noted) l t.writes ∙ ap (λ (xs : List Mark). changed (lower l) xs (overs_of t.writes)) (raised_is ms c t.noted) in
-      ap (λ (xs : List Mark). grown places xs c t.writes) e ∙ grown_is places old c t.writes (omega (arith, old_length, room))
+  marked_is = grind (arith, common_steps, lowered_is, raised_is, grown_is, old_length)
 
   pub marked_length : length (marking.marked places ms c l t) ≡ length ms + length t.writes
-  marked_length = ap length marked_is ∙ (length-append old (replicate (length t.writes) (new_mark c)) ∙ ap₂ ◌+◌ old_length (length-replicate (length t.writes) (new_mark c)))
+  marked_length = grind (arith, common_steps, marked_is, length-append, old_length, length-replicate)
 
   pub marked_old : (v : ℕ) → v < length ms → mark_at (marking.marked places ms c l t) v ≡ remarked c l (member v t.noted) (member v (overs_of t.writes)) (mark_at ms v)
-  marked_old v h =
-      ap (λ (xs : List Mark). mark_at xs v) marked_is
-      ∙ (get_or_append_left old (replicate (length t.writes) (new_mark c)) (new_mark 0) v (omega (arith, old_length))
-      ∙ (at_changed (lower l) (λ x. refl) (changed (raise c) ms t.noted) (overs_of t.writes) v (omega (arith, length_changed (raise c) ms t.noted))
-      ∙ ap (λ x. cond (member v (overs_of t.writes)) (lower l x) x) (at_changed (raise c) (λ x. refl) ms t.noted v h)))
+  marked_old v h = grind (arith, common_steps, marked_is, get_or_append_left, old_length, at_changed, length_changed)
 
   pub marked_new : (v : ℕ) → length ms ≤ v → v < length ms + length t.writes → mark_at (marking.marked places ms c l t) v ≡ new_mark c
-  marked_new v h u =
-      ap (λ (xs : List Mark). mark_at xs v) marked_is
-      ∙ (get_or-append_right old (replicate (length t.writes) (new_mark c)) (length ms) v (new_mark 0) old_length h
-      ∙ get_or-replicate (length t.writes) (v - length ms) (new_mark c) (new_mark 0) (omega (arith, u)))
+  marked_new v h u = grind (arith, common_steps, marked_is, get_or-append_right, old_length, get_or-replicate)
 
 -- a write that the track has room for
 wrote_member : (ws : List Over) (r : ℕ) → wrote r ws ≡ member r (records_of ws)
@@ -136,10 +122,4 @@ wrote_member (w ∷ ws) r = ap (λ b. eqb w.at r || b) (wrote_member ws r)
 
 pub written_is : (t : Track) (r n : ℕ) → (member r (records_of t.writes) ≡ false → leb 16 (length t.writes) ≡ false)
     → written t r n ≡ record { noted = t.noted; writes = cond (member r (records_of t.writes)) t.writes (t.writes ++ (record { at = r; version = n } ∷ [])) }
-written_is t r n h = go (wrote r t.writes) refl
-  where
-    go : (b : Bool) → wrote r t.writes ≡ b → written t r n ≡ record { noted = t.noted; writes = cond (member r (records_of t.writes)) t.writes (t.writes ++ (record { at = r; version = n } ∷ [])) }
-    go true e = let f : member r (records_of t.writes) ≡ true = sym (wrote_member t.writes r) ∙ e in rw (e, f)
-    go false e =
-        let f : member r (records_of t.writes) ≡ false = sym (wrote_member t.writes r) ∙ e in
-        let g = h f in rw (e, f, g)
+written_is t r n h = grind (arith, common_steps, wrote_member)

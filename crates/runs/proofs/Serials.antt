@@ -48,8 +48,7 @@ module _ {E : Type 0} (first : E) (size : ℕ) where
   in_turn : (ts : List (Transaction E)) → Good first size ts → (r : ℕ) (u t : Transaction E) → Has u ts → Has t ts → Wrote u r → Wrote t r
       → u.grant.stamp < t.grant.stamp → Before u t
   in_turn [] g r u t h k a b l = elim h [ ]
-  in_turn (w ∷ ws) g r u t (inl h) k a b l =
-      absurd (omega (arith, stamped first size (w ∷ ws) g t k, stamp_same h, commit_stamp g.0))
+  in_turn (w ∷ ws) g r u t (inl h) k a b l = grind (arith, common_steps, stamped, stamp_same, commit_stamp)
   in_turn (w ∷ ws) g r u t (inr h) (inl k) a b l =
       let y = latest ws g.1 r u h a in
       let m = y.0 in
@@ -132,14 +131,7 @@ record Within {E : Type 0} (first : E) (size : ℕ) (cur : ℕ → E) (ps : List
 
 module _ {E : Type 0} (first : E) (size : ℕ) (cur : ℕ → E) where
   within_write : (ps : List (Pending E)) (l : List E) (r : ℕ) (e : E) → r < size → Within first size cur ps l → Within first size cur (replaced ps r e) (set l r e)
-  within_write ps l r e k h = record {
-    count = length-set l r e ∙ h.count;
-    entries = λ q j. elim (cases_eq r q) [
-      | inl same ↦ subst (λ x. get_or (set l r e) x first ≡ or_else (own_at (replaced ps r e) x) (cur x)) same
-          (get_or-set_same l r e first (omega (arith, h.count)) ∙ sym (ap (λ o. or_else o (cur r)) (own_same ps r e)))
-      | inr n ↦ get_or-set_other l r q e first (λ s. n (sym s)) ∙ (h.entries q j ∙ sym (ap (λ o. or_else o (cur q)) (own_other ps r q e n)))
-    ];
-  }
+  within_write ps l r e k h = grind (arith, common_steps, length-set, cases_eq, get_or-set_same, own_same, get_or-set_other, own_other)
 
   -- where the versions that it read have those entries, all of its reads agree
   walked : (ts : List (Transaction E)) (acts : List (Act E)) (ps : List (Pending E)) (l : List E) → Within first size cur ps l
@@ -164,7 +156,7 @@ module _ {E : Type 0} where
   Falling (t ∷ past) = ((u : Transaction E) → Has u past → Before u t) × Falling past
 
   last_skips : (first : E) (t : Transaction E) (past : List (Transaction E)) (r : ℕ) → (Wrote t r → ⊥) → last_of first (t ∷ past) r ≡ last_of first past r
-  last_skips first t past r n = ap (λ o. or_else o (last_of first past r)) (not_held (pending_of t) r (not_true_false (holds (pending_of t) r) n))
+  last_skips first t past r n = grind (arith, common_steps, not_held, pending_of, not_true_false)
 
   last_none : (first : E) (past : List (Transaction E)) (r : ℕ) → ((u : Transaction E) → Has u past → Wrote u r → ⊥) → last_of first past r ≡ first
   last_none first [] r n = refl
@@ -205,9 +197,7 @@ module _ {E : Type 0} where
 module _ {E : Type 0} (first : E) (size : ℕ) (done : List (Transaction E)) (g : Good first size done) where
   -- t ranks after the maker of a version that it read, and before all others that wrote the record since
   read_after : (t : Transaction E) (r : ℕ) (v : Version E) → Has t done → Has (took_version r v) t.acts → (m : Maker done r v) → Before m.maker t
-  read_after t r v h a m =
-      let k = read_version first size done g t h r v a in
-      forward first size done g m.maker t (m.here, h, (λ e. omega (arith, m.stamp, k.1)), (v.number, inl (act_reads t r v a, m.made)))
+  read_after t r v h a m = grind (arith, common_steps, read_version, forward, act_reads)
 
   read_before : (t u : Transaction E) (r : ℕ) (v : Version E) → Has t done → Has u done → Has (took_version r v) t.acts → Wrote u r → (u.grant.stamp ≡ t.grant.stamp → ⊥)
       → v.stamp < u.grant.stamp → Before t u
@@ -227,10 +217,7 @@ module _ {E : Type 0} (first : E) (size : ℕ) (done : List (Transaction E)) (g 
 
   -- of those that wrote a record, none up to w ranks after w
   not_after : (r : ℕ) (u w : Transaction E) → Has u done → Has w done → Wrote u r → Wrote w r → u.grant.stamp ≤ w.grant.stamp → Before w u → ⊥
-  not_after r u w h k a b l c = elim (cases_eq u.grant.stamp w.grant.stamp) [
-    | inl e ↦ before_irrefl w (subst (λ (x : Transaction E). Before w x) (same_stamp first size done g u w h k e) c)
-    | inr n ↦ before_asym u w (in_turn first size done g r u w h k a b (omega (arith, n))) c
-  ]
+  not_after r u w h k a b l c = grind (arith, common_steps, cases_eq, before_irrefl, same_stamp, before_asym, in_turn)
 
   -- t comes next: what it read of a record is what the transactions before it left there
   module _ (past : List (Transaction E)) (t : Transaction E) (rest : List (Transaction E)) (s : Split done past (t ∷ rest)) where

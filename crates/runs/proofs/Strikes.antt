@@ -133,7 +133,7 @@ module _ {E : Type 0} where
   put_only f s k c t e = ap₂ (beside s) (masked_kept None f s.store.consoles k c e) (masked_kept no_track f s.tracks k t e)
 
   put_off : (f : ℕ → Bool) (s : LogState E) (k : ℕ) (c : Option (Console E)) (t : Track) → f k ≡ false → only f s ≡ only f (put_at s k c t)
-  put_off f s k c t e = ap₂ (beside s) (masked_struck None f s.store.consoles k c e) (masked_struck no_track f s.tracks k t e)
+  put_off f s k c t e = grind (arith, common_steps, masked_struck)
 
   -- a commit, a drop or UNSAFE at console k decides on its own console alone
   elsewhere : (b : Bool) (h : List (Event E)) (k j : ℕ) → j ≢ k → cond (eqb k j) b (fate j h) ≡ fate j h
@@ -246,16 +246,10 @@ module _ {E : Type 0} where
     off_here k = cond-true (eqb k k) _ _ (eq-eqb k k refl)
 
     follows_fails : (k : ℕ) → Follows rules s (Commit k) (refused unsafe) (put_at s k None no_track) h
-    follows_fails k = record {
-      when_kept = λ on. absurd (false≢true on);
-      when_struck = λ _. ended (committing (event (Commit k) (refused unsafe) ∷ h)) k (off_here k) (elsewhere false h k);
-    }
+    follows_fails k = grind (arith, common_steps, false≢true, ended, off_here, elsewhere)
 
     follows_drops : (k : ℕ) → Follows rules s (Drop k) dropped (put_at s k None no_track) h
-    follows_drops k = record {
-      when_kept = λ on. absurd (both_ways _ (off_here k) on);
-      when_struck = λ _. ended (committing (event (Drop k) dropped ∷ h)) k (off_here k) (elsewhere false h k);
-    }
+    follows_drops k = grind (arith, common_steps, off_here, ended, elsewhere)
 
   -- a step of the log is a step of the struck log, or leaves it as it was
   follows : {rules : Rules} {s : LogState E} {c : Call E} {x : Reply E} {t : LogState E} (h : List (Event E)) → Step rules s c x t → Follows rules s c x t h

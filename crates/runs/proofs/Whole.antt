@@ -38,7 +38,7 @@ module _ {E : Type 0} where
     pending_row k o e = grind (arith, common_steps)
 
     grant_is : (k : ℕ) (o : Console E) → console_at s.store k ≡ Some o → grant_at s k ≡ grant_of m.done (acts_at m k)
-    grant_is k o e = grant_same h (pending_at s.store k) (acts_at m k) (track_at s k) (pending_row k o e)
+    grant_is k o e = grind (arith, common_steps, grant_same)
 
     commit_kept : (k : ℕ) (o : Console E) → Live s k o → s.store.clock < 4000 → (grant_at s k).high < (grant_at s k).low
         → Tied f size (finished m k (grant_at s k)) (settled s k (grant_at s k) (committed s.store k))

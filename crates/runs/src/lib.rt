@@ -1,7 +1,7 @@
 // Whole runs: a log is opened, and a list of calls is played on it.
 #![tactic(auto)]
 
-ghost use Rattle.std.specs.Prelude.{◌≡◌, ◌++◌, map, IfOk, OnOk};
+ghost use Rattle.std.specs.Prelude.{◌≡◌, map, IfOk};
 ghost use Rattle.std.specs.Option.{option_to_list};
 ghost use Rattle.certifier.specs.Entries.{track_of, entry_by};
 ghost use Rattle.certifier.specs.Logs.{log_state, reply_of};
