@@ -12,6 +12,11 @@ pub append_all : {X : Type 0} (had rest all : List X) → rest ≡ [] → had ++
 append_all had rest all none so = sym (append-nil had) ∙ ap (λ l. had ++ l) (sym none) ∙ so
 
 -- one more number at the end
-pub numbers_push : (ns : List ℕ) (n : ℕ) → numbers_text (ns ++ n ∷ []) ≡ numbers_text ns ++ (codes " " ++ decimal n)
+numbers_push : (ns : List ℕ) (n : ℕ) → numbers_text (ns ++ n ∷ []) ≡ numbers_text ns ++ (codes " " ++ decimal n)
 numbers_push [] n = append-nil (codes " " ++ decimal n)
 numbers_push (m ∷ ns) n = ap (λ l. (codes " " ++ decimal m) ++ l) (numbers_push ns n) ∙ sym (append_assoc (codes " " ++ decimal m) (numbers_text ns) (codes " " ++ decimal n))
+
+-- one more number printed behind those so far
+pub append_number : (was before after ns : List ℕ) (n : ℕ) → before ≡ was ++ numbers_text ns → after ≡ before ++ (codes " " ++ decimal n) → after ≡ was ++ numbers_text (ns ++ n ∷ [])
+append_number was before after ns n so wrote =
+    wrote ∙ ap (λ l. l ++ (codes " " ++ decimal n)) so ∙ append_assoc was (numbers_text ns) (codes " " ++ decimal n) ∙ ap (λ l. was ++ l) (sym (numbers_push ns n))

@@ -1,15 +1,18 @@
-use Rattle.std.proofs.Common.{◌++◌, codes, decimal, string_bytes, sym, ap, ◌∙◌, append_assoc}
+use Rattle.std.proofs.Common.{◌≡◌, ◌++◌, codes, decimal, string_bytes, sym, ap, ◌∙◌}
 use Rattle.std.proofs.iter.runs.Made.{run_of_exit}
 use Rattle.filing.specs.Showing.{numbers_text}
-use Rattle.filing.proofs.Appends.{numbers_push}
+use Rattle.filing.proofs.Appends.{append_number}
 use Rattle.filing.proofs.numbers.print_numbers.Goals as goal
 
 pub loop-number-preserved : goal.loop-number-preserved
 loop-number-preserved g c =
-    let n = c.in-Some.number in
     let was = string_bytes c.args.text.now in
-    c.in_ok-write.ensures.bytes ∙ ap (λ l. l ++ (codes " " ++ decimal n)) c.loop-number.invariant ∙ append_assoc was (numbers_text c.loop-number.yielded) (codes " " ++ decimal n)
-    ∙ ap (λ l. was ++ l) (sym (numbers_push c.loop-number.yielded n))
+    let before = string_bytes c.loop-number.text in
+    let after = string_bytes c.write.new.self in
+    let n = c.in-Some.number in
+    let so_far = c.loop-number.yielded in
+    let wrote : after ≡ before ++ (codes " " ++ decimal n) = c.in_ok-write.ensures.bytes in
+    append_number was before after so_far n c.loop-number.invariant wrote
 
 pub returns : goal.returns
 returns g c =
