@@ -1,6 +1,6 @@
 -- A list that is filled from the front with the versions of some writes.
 use Rattle.std.proofs.Common.{◌≡◌, ℕ, ◌+◌, ◌<◌, ◌≤◌, List, [], ◌∷◌, ◌++◌, length, get_or, take, drop, set, sym, ap, ◌∙◌, append_assoc, arith}
-use Rattle.std.proofs.lemmas.List.{drop_more, map_more, set_at, length-map, length-take-le, take_all}
+use Rattle.std.proofs.lemmas.List.{drop_more, map_more, set_at, length-map, length-take-le}
 use Rattle.certifier.specs.declared.Over.{Over}
 use Rattle.certifier.specs.Marking.{overs_of}
 
@@ -11,8 +11,3 @@ fill_turn xs l i d lt le =
     ∙ (set_at (overs_of (take i xs)) _ _ _ i (length-map (take i xs) (λ x. x.version) ∙ length-take-le i xs (omega arith))
     ∙ (sym (append_assoc (overs_of (take i xs)) ((get_or xs i d).version ∷ []) (drop (i + 1) l))
     ∙ ap (λ (ys : List ℕ). ys ++ drop (i + 1) l) (sym (map_more (λ (x : Over). x.version) xs i d lt))))
-
-pub fill_end : (xs : List Over) (l l' : List ℕ) (i : ℕ) → length xs ≤ i → i ≤ length xs → l' ≡ overs_of (take i xs) ++ drop i l → l' ≡ overs_of xs ++ drop (length xs) l
-fill_end xs l l' i a b e =
-    let q : i ≡ length xs = omega arith in
-    e ∙ ((λ j. overs_of (take (q j) xs) ++ drop (q j) l) ∙ ap (λ (ys : List Over). overs_of ys ++ drop (length xs) l) (take_all (length xs) xs (omega arith)))

@@ -1,5 +1,5 @@
 mod Fills
-mod Folds
+pub mod Folds
 mod Links
 mod Overwrites
 mod Steps

@@ -1,5 +1,6 @@
 -- Marks: what is kept of each version and of each open transaction, and the marks that a commit is judged by.
-use Rattle.std.specs.Prelude.{ℕ, min, max, Bool, false, cond, not, ◌||◌, List, [], ◌∷◌, ◌++◌, map, length, Some, None, Option, ◌==◌, nat_le, nat_lt, slice_index_or, slice_set}
+use Rattle.std.specs.Prelude.{◌≡◌, ℕ, min, max, Bool, cond, not, ◌||◌, List, [], ◌∷◌, ◌++◌, map, length, Some, None, Option, ◌==◌, nat_le, nat_lt, slice_index_or, slice_set}
+use Rattle.std.specs.List.{list_any, fold}
 use Rattle.certifier.specs.declared.Grant.{Grant}
 use Rattle.certifier.specs.declared.Mark.{Mark}
 use Rattle.certifier.specs.declared.Over.{Over}
@@ -16,14 +17,13 @@ no_track = record { noted = []; writes = [] }
 abbrev pub overs_of : List Over → List ℕ
 overs_of ws = map (λ w. w.version) ws
 
+-- whether the number n is in the list
 abbrev pub member : ℕ → List ℕ → Bool
-member n [] = false
-member n (x ∷ xs) = x == n || member n xs
+member n xs = list_any (λ x. x == n) xs
 
 -- whether the record r is among those written
 abbrev pub wrote : ℕ → List Over → Bool
-wrote r [] = false
-wrote r (w ∷ ws) = w.at == r || wrote r ws
+wrote r ws = list_any (λ w. w.at == r) ws
 
 -- the list with n in it, each number once
 abbrev pub note_in : ℕ → List ℕ → List ℕ
@@ -54,18 +54,15 @@ low_or n (Some m) = min n m
 
 -- the smallest of l and the low marks present on the versions ns
 abbrev pub low_mark : List Mark → ℕ → List ℕ → ℕ
-low_mark ms l [] = l
-low_mark ms l (n ∷ ns) = low_mark ms (low_or l (mark_at ms n).low) ns
+low_mark ms l ns = fold (λ low n. low_or low (mark_at ms n).low) l ns
 
 -- the greatest of h and the stamps of the versions ns
 abbrev pub top_stamp : List Mark → ℕ → List ℕ → ℕ
-top_stamp ms h [] = h
-top_stamp ms h (n ∷ ns) = top_stamp ms (max h (mark_at ms n).stamp) ns
+top_stamp ms h ns = fold (λ high n. max high (mark_at ms n).stamp) h ns
 
 -- the greatest of h and the high marks of the versions that ws overwrites
 abbrev pub top_high : List Mark → ℕ → List Over → ℕ
-top_high ms h [] = h
-top_high ms h (w ∷ ws) = top_high ms (max h (mark_at ms w.version).high) ws
+top_high ms h ws = fold (λ high w. max high (mark_at ms w.version).high) h ws
 
 -- the stamp and the marks of a transaction that would commit at c
 abbrev pub verdict_of : List Mark → ℕ → Track → Grant
@@ -82,17 +79,23 @@ lower_row ms l n = slice_set ms n (record { stamp = (mark_at ms n).stamp; high =
 abbrev pub add_row : ℕ → List Mark → ℕ → List Mark
 add_row places ms c = cond (nat_lt (length ms) places) (ms ++ (new_mark c ∷ [])) ms
 
+-- the row of version n changed by f, where there is one
+abbrev pub changed : (Mark → Mark) → List Mark → ℕ → List Mark
+changed f ms n = slice_set ms n (f (mark_at ms n))
+
+-- the rows of the versions ns changed one after another, by what computes a function of a row
+abbrev pub Changes : (Mark → Mark → Type 0) → List Mark → List ℕ → List Mark → Type 0
+Changes step ms ns ms' = (f : Mark → Mark) → ((m m' : Mark) → step m m' → m' ≡ f m) → ms' ≡ fold (changed f) ms ns
+
+-- the same of several rows, one after another
 abbrev pub raised : List Mark → ℕ → List ℕ → List Mark
-raised ms c [] = ms
-raised ms c (n ∷ ns) = raised (raise_row ms c n) c ns
+raised ms c ns = fold (λ rows n. raise_row rows c n) ms ns
 
 abbrev pub lowered : List Mark → ℕ → List Over → List Mark
-lowered ms l [] = ms
-lowered ms l (w ∷ ws) = lowered (lower_row ms l w.version) l ws
+lowered ms l ws = fold (λ rows w. lower_row rows l w.version) ms ws
 
 abbrev pub grown : ℕ → List Mark → ℕ → List Over → List Mark
-grown places ms c [] = ms
-grown places ms c (w ∷ ws) = grown places (add_row places ms c) c ws
+grown places ms c ws = fold (λ rows w. add_row places rows c) ms ws
 
 -- the marks after a commit at c with low mark l: the noted versions' high marks, the overwritten ones' low marks, the new versions
 abbrev pub marked : ℕ → List Mark → ℕ → ℕ → Track → List Mark

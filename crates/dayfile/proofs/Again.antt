@@ -1,13 +1,13 @@
 -- Writing what was read gives the bytes that were read.
-use Rattle.std.proofs.Common.{◌≡◌, ℕ, zero, suc, ◌+◌, ◌-◌, ◌*◌, ◌/◌, ◌%◌, ◌<◌, ◌≤◌, Bool, true, false, cond, ◌&&◌, eqb, ltb, leb, List, [], ◌∷◌, ◌++◌, length, get_or, take, drop, is_some, Some, None, Option, sym, refl, ap, ◌∙◌, subst, append_assoc, arith, lit<, ltb-false, eqb-true, leb-true}
-use Rattle.std.proofs.lemmas.Bool.{and_parts}
+use Rattle.std.proofs.Common.{◌≡◌, ℕ, zero, suc, ◌+◌, ◌-◌, ◌*◌, ◌/◌, ◌%◌, ◌<◌, ◌≤◌, Bool, true, false, cond, ◌&&◌, eqb, ltb, leb, List, [], ◌∷◌, ◌++◌, length, get_or, take, drop, is_some, Some, None, Option, sym, refl, ap, ◌∙◌, subst, append_assoc, arith, lit<, ltb-false, eqb-true, leb-true, le-ltb}
+use Rattle.std.proofs.lemmas.Bool.{and_parts, cond-true, cond-false}
 use Rattle.std.proofs.lemmas.List.{take-append-drop, length-append, length-take-le, length-drop, drop-drop}
 use Rattle.store.specs.declared.Code.{Code}
 use Rattle.store.specs.Refusals.{Answer}
 use Rattle.store.specs.Refusals.Answer.{gives, refuses}
 use Rattle.dayfile.specs.Refusals.{too_short, no_mark, bad_pointer, bad_entry}
 use Rattle.dayfile.specs.Format.{Commit, pairs, twos, entry_bytes, body_bytes, trailer_bytes, file_bytes}
-use Rattle.dayfile.specs.Reading.{Shape, entry_at, taken, commit_of, entries_in, onto, read_of, trailed, pointed, filled, shape_at, entries_of, body_of, records_in, count_in, length_in, points, marked, Whole}
+use Rattle.dayfile.specs.Reading.{Shape, entry_at, taken, commit_of, entries_in, onto, read_of, trailed, pointed, filled, shape_at, entries_of, body_of, records_in, count_in, length_in, points, marked, Says, Whole}
 use Rattle.dayfile.proofs.Bytes.{length_pairs}
 use Rattle.dayfile.proofs.Walks.{cond_some, none_is, some_of}
 
@@ -215,6 +215,17 @@ read_again bs s bytes h =
       few = leb-true R 256 p₂.0;
       short = leb-true N 4000 p₃.0;
     })
+
+-- what the reader answers where the trailer has the mark and its numbers are in range: it is left to the entries
+pub read_pointed : (bs tail : List ℕ) (r n len : ℕ) → 10 ≤ length bs → tail ≡ drop (length bs - 10) bs → Says tail r n len → points r n len (length bs - 10) ≡ true
+    → read_of bs ≡ filled (shape_at bs r n len) (entries_of (shape_at bs r n len))
+read_pointed bs tail r n len long e says ok =
+    cond-false _ _ _ (le-ltb (length bs) 10 long) ∙ ap (trailed bs) (sym e) ∙ cond-true _ _ _ says.mark
+    ∙ (λ i. pointed bs (sym says.records i) (sym says.count i) (sym says.extent i)) ∙ cond-true _ _ _ ok
+
+pub filled_not : (s : Shape) (o : Option (List Commit)) → is_some o ≡ false → filled s o ≡ refuses bad_entry
+filled_not s None h = refl
+filled_not s (Some es) h = let z : true ≡ false = h in cc
 
 some_same : {X : Type 0} (o : Option X) (x y : X) → o ≡ Some x → o ≡ Some y → x ≡ y
 some_same o x y p q = cc

@@ -1,11 +1,13 @@
 -- Laws of the walk over a file's entries.
-use Rattle.std.proofs.Common.{◌≡◌, ℕ, zero, suc, ◌+◌, ◌-◌, ◌*◌, ◌/◌, ◌<◌, ◌≤◌, Bool, true, false, cond, List, [], ◌∷◌, ◌++◌, length, get_or, take, drop, set, is_some, Some, None, Option, sym, refl, ap, ◌∙◌, subst, arith, ltb-true, eq-eqb, ne_eqb, leb-true}
-use Rattle.std.proofs.lemmas.List.{take_more_set, take_rest, append_assoc, drop-drop, drop-set, length-drop, take_at, length-take-le}
+use Rattle.std.proofs.Common.{◌≡◌, ℕ, zero, suc, ◌+◌, ◌-◌, ◌*◌, ◌/◌, ◌<◌, ◌≤◌, Bool, true, false, cond, List, [], ◌∷◌, map, length, drop, is_some, Some, None, Option, sym, refl, ap, ◌∙◌, subst, arith, ltb-true, eq-eqb, ne_eqb, leb-true}
+use Rattle.std.proofs.lemmas.Simd.{map-map}
 use Rattle.std.proofs.lemmas.Bool.{and_parts}
+use Rattle.std.specs.Option.{option_map}
+use Rattle.std.specs.List.{enumerate_from}
 use Rattle.dayfile.specs.declared.Entry.{Entry}
 use Rattle.dayfile.specs.Said.{said}
-use Rattle.dayfile.proofs.Bytes.{length_pairs, pairs_step}
-use Rattle.dayfile.specs.Format.{Commit, pairs, below, fits}
+use Rattle.dayfile.proofs.Bytes.{length_pairs}
+use Rattle.dayfile.specs.Format.{Commit, below, fits}
 use Rattle.dayfile.specs.Reading.{entry_at, taken, commit_of, entries_in, onto, Walk, past, next_of, step_of}
 
 pub cond_some : {X : Type 0} (t : Bool) (x y : X) → cond t (Some x) None ≡ Some y → (t ≡ true) × (x ≡ y)
@@ -51,10 +53,6 @@ entry_fits n b (x ∷ y ∷ z ∷ []) e after t = absurd (none_is _ t)
 entry_fits n b (x ∷ y ∷ z ∷ u ∷ []) e after t = absurd (none_is _ t)
 entry_fits n b (x ∷ y ∷ z ∷ u ∷ v ∷ xs) e after t = taken_fits n b x y z u v xs e after t
 
-onto_some : (e : Commit) (o : Option (List Commit)) → is_some (onto e o) ≡ is_some o
-onto_some e None = refl
-onto_some e (Some es) = refl
-
 pub step_none : (n p b : ℕ) (bs : List ℕ) → 0 < n → None ≡ entry_at p b bs → entries_in n p b bs ≡ None
 step_none zero p b bs h e = absurd (omega arith)
 step_none (suc n) p b bs h e =
@@ -67,22 +65,10 @@ step_some (suc n) p b bs e after h t =
     ap (λ o. elim o [ None ↦ None | Some t ↦ onto t.0 (entries_in n (p + 1) (b + length t.0.writes) t.1) ]) (sym t)
     ∙ ap (λ k. onto e (entries_in k (p + 1) (b + length e.writes) after)) less
 
-pub test_none : (n p b : ℕ) (bs : List ℕ) → 0 < n → None ≡ entry_at p b bs → false ≡ is_some (entries_in n p b bs)
-test_none n p b bs h e = sym (ap is_some (step_none n p b bs h e))
-
-pub test_some : (n p b : ℕ) (bs : List ℕ) (x : Entry) (after : List ℕ) → 0 < n → Some (said x, after) ≡ entry_at p b bs
-    → is_some (entries_in (n - 1) (p + 1) (b + length x.writes.now / 2) after) ≡ is_some (entries_in n p b bs)
-test_some n p b bs x after h t =
-    ap (λ k. is_some (entries_in (n - 1) (p + 1) (b + k) after)) (sym (length_pairs x.writes.now))
-    ∙ sym (ap is_some (step_some n p b bs (said x) after h t) ∙ onto_some (said x) (entries_in (n - 1) (p + 1) (b + length (pairs x.writes.now)) after))
-
 pub few_writes : (n b : ℕ) (xs : List ℕ) (x : Entry) (after : List ℕ) → Some (said x, after) ≡ entry_at n b xs → length x.writes.now / 2 ≤ 16
 few_writes n b xs x after t = subst (λ k. k ≤ 16) (length_pairs x.writes.now) (fits_came n b (said x) (entry_fits n b xs (said x) after (sym t))).writes
 
 -- one step of a walk, as the code takes it
-pub step_unread : (w : Walk) → 0 < w.left → None ≡ entry_at w.place w.bound w.rest → (None, w) ≡ step_of w
-step_unread w h e = ap (next_of w) e ∙ sym (ap (λ t. cond t (None, w) (next_of w (entry_at w.place w.bound w.rest))) (ne_eqb w.left 0 (λ z. omega arith)))
-
 pub step_read : (w : Walk) (x : Entry) (after : List ℕ) → 0 < w.left → Some (said x, after) ≡ entry_at w.place w.bound w.rest
     → (Some (said x), record { left = w.left - 1; place = w.place + 1; bound = w.bound + length x.writes.now / 2; rest = after }) ≡ step_of w
 step_read w x after h e =
@@ -124,6 +110,15 @@ step_gives w v e h = by w.left refl
     by zero q = absurd (no_entry e w v (h ∙ ap (λ t. cond t (None, w) (next_of w (entry_at w.place w.bound w.rest))) (eq-eqb w.left 0 (sym q))))
     by (suc n) q = let l : 0 < w.left = omega arith in more l (entry_at w.place w.bound w.rest) refl (h ∙ ap (λ t. cond t (None, w) (next_of w (entry_at w.place w.bound w.rest))) (ne_eqb w.left 0 (λ z. omega arith)))
 
+onto_is_some : (e : Commit) (o : Option (List Commit)) → is_some (onto e o) ≡ is_some o
+onto_is_some e None = refl
+onto_is_some e (Some es) = refl
+
+-- a step that gives an entry leaves the question whether the others are there
+pub step_on : (r : Option Entry) (w v : Walk) → is_some r ≡ true → (option_map said r, v) ≡ step_of w → is_some (to_come v) ≡ is_some (to_come w)
+step_on None w v h s = let z : false ≡ true = h in cc
+step_on (Some e) w v h s = sym (ap is_some (step_gives w v (said e) s).come ∙ onto_is_some (said e) (to_come v))
+
 -- where a step gives none, no entry was to come
 pub step_ends : (w v : Walk) (rest : List Commit) → (None, v) ≡ step_of w → to_come w ≡ Some rest → rest ≡ []
 step_ends w v rest h t = by w.left refl
@@ -141,18 +136,10 @@ step_ends w v rest h t = by w.left refl
     by zero q = none_left w.left w.place w.bound w.rest (sym q) t
     by (suc n) q = let l : 0 < w.left = omega arith in more l (entry_at w.place w.bound w.rest) refl (h ∙ ap (λ t. cond t (None, w) (next_of w (entry_at w.place w.bound w.rest))) (ne_eqb w.left 0 (λ z. omega arith)))
 
--- one turn of unpacking
-module _ (bytes rest out was : List ℕ) (n : ℕ) (two : 2 ≤ length rest) (room : n < length out) where
-  pub unpack_front : (v : ℕ) → v ≡ get_or rest 0 0 * 256 + get_or rest 1 0 → take n out ++ pairs rest ≡ pairs bytes → take (n + 1) (set out n v) ++ pairs (take (length rest - 2) (drop 2 rest)) ≡ pairs bytes
-  unpack_front v is e =
-      (λ i. take_more_set out n v room i ++ pairs (take_rest rest 2 i)) ∙ append_assoc (take n out) (v ∷ []) (pairs (drop 2 rest)) ∙ ap (λ l. take n out ++ l) (ap (λ x. x ∷ pairs (drop 2 rest)) is ∙ sym (pairs_step rest two)) ∙ e
+-- the numbers of a list in turn, without their places
+placed : (n : ℕ) (xs : List ℕ) → map (λ p. p.1) (enumerate_from n xs) ≡ xs
+placed n [] = refl
+placed n (x ∷ xs) = ap (λ l. x ∷ l) (placed (n + 1) xs)
 
-  pub unpack_rest : (v : ℕ) → drop n out ≡ drop n was → drop (n + 1) (set out n v) ≡ drop (n + 1) was
-  unpack_rest v e = sym (drop-drop 1 n (set out n v)) ∙ ap (drop 1) (drop-set out n v room) ∙ sym (drop-drop 1 n out) ∙ ap (drop 1) e ∙ drop-drop 1 n was
-
-  pub unpack_count : n + length rest / 2 ≡ length bytes / 2 → n + 1 + length (take (length rest - 2) (drop 2 rest)) / 2 ≡ length bytes / 2
-  unpack_count e = let l = ap length (take_rest rest 2) ∙ length-drop 2 rest in omega arith
-
--- the front of the list, where unpacking ends
-pub unpack_done : (bytes rest out : List ℕ) (n : ℕ) → n ≤ length out → take n out ++ pairs rest ≡ pairs bytes → take n out ≡ take n (pairs bytes)
-unpack_done bytes rest out n h e = sym (ap (take n) (sym e) ∙ take_at (take n out) (pairs rest) n (length-take-le n out h))
+pub numbers_placed : (n : ℕ) (xs : List ℕ) (ys : List (ℕ × ℕ)) → map (λ p. (p.0, p.1)) ys ≡ enumerate_from n xs → map (λ p. p.1) ys ≡ xs
+numbers_placed n xs ys e = sym (map-map (λ p. p.1) (λ p. (p.0, p.1)) ys) ∙ ap (map (λ p. p.1)) e ∙ placed n xs

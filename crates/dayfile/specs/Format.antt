@@ -1,5 +1,6 @@
 -- The format of a day file: the bytes of its entries and of its trailer, and the ranges of their numbers.
 use Rattle.std.specs.Prelude.{ℕ, ◌+◌, ◌*◌, ◌/◌, ◌%◌, Bool, true, ◌&&◌, List, [], ◌∷◌, ◌++◌, length, nat_le, nat_lt}
+use Rattle.std.specs.List.{list_all}
 
 -- what an entry says of a committed transaction: its console, its low mark, the versions that it noted and those that it overwrote
 pub record Commit : Type 0 where
@@ -36,8 +37,7 @@ file_bytes r es = body_bytes es ++ trailer_bytes r (length es) (length (body_byt
 
 -- each number is below b
 abbrev pub below : ℕ → List ℕ → Bool
-below b [] = true
-below b (n ∷ ns) = nat_lt n b && below b ns
+below b ns = list_all (λ n. nat_lt n b) ns
 
 -- the numbers in the head of the entry at place n are in range
 abbrev pub head_fits : ℕ → ℕ → ℕ → ℕ → ℕ → Bool

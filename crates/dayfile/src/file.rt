@@ -1,6 +1,9 @@
 // A file that was read, and a walk over its entries.
 ghost use Rattle.std.specs.Prelude.{◌+◌, ◌*◌, ◌^◌, ◌<◌, ◌≤◌};
 
+use crate::Spot;
+
+// Kept: that a file is whole stands in clauses: its fields are public, and a ghost field would ask a proof of whoever builds one.
 /// A day file: the part of the input that it fills, where that begins in the input, and its trailer's numbers.
 #[derive(Clone, Copy)]
 pub struct DayFile<'a> {
@@ -10,14 +13,12 @@ pub struct DayFile<'a> {
     pub count: u16,
 }
 
-/// A walk over a file's entries: how many are left, the place of the next,
-/// how many versions were made before it, and the bytes from it on.
+/// A walk over a file's entries: how many are left, where the next stands, and the bytes from it on.
 #[derive(Clone, Copy)]
 pub struct Entries<'a> {
     pub(crate) rest: &'a [u8],
     pub(crate) left: u16,
-    pub(crate) place: u32,
-    pub(crate) bound: u32,
-    ghost placed: { place + left ≤ 65536 },
-    ghost bounded: { bound + 16 * left < 2 ^ 32 },
+    pub(crate) spot: Spot,
+    ghost placed: { spot.place + left ≤ 65536 },
+    ghost bounded: { spot.bound + 16 * left < 2 ^ 32 },
 }

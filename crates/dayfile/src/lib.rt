@@ -3,17 +3,19 @@
 
 mod file;
 mod read;
+mod spot;
+mod versions;
 
-ghost use Rattle.std.specs.Prelude.{◌≡◌, ℕ, ◌+◌, ◌*◌, ◌/◌, ◌<◌, ◌≤◌, length};
-ghost use Rattle.std.specs.Option.{option_map};
+ghost use Rattle.std.specs.Prelude.{◌≡◌};
 ghost use Rattle.dayfile.specs.Refusals.{code_of};
-ghost use Rattle.dayfile.specs.Format.{below, pairs, fits, head_fits};
-ghost use Rattle.dayfile.specs.Reading.{entry_at};
-ghost use Rattle.dayfile.specs.Said.{said};
+ghost use Rattle.dayfile.specs.Format.{head_fits};
+ghost use Rattle.dayfile.specs.Said.{said, Gives};
 
 pub use file::{DayFile, Entries};
 pub use read::unpack;
+pub use spot::Spot;
 use store::{Code, Layer};
+pub use versions::{Pairs, Versions};
 
 /// Why bytes are not read as a day file, or a day file is not written.
 #[derive(Clone, Copy)]
@@ -49,27 +51,13 @@ impl FileRefusal {
     }
 }
 
-/// One entry of a file. Its versions are pairs of the file's bytes: `unpack` gives their numbers.
+/// One entry of a file. Its versions are pairs of the file's bytes: `noted` and `overwritten` give their numbers.
 #[derive(Clone, Copy)]
 pub struct Entry<'a> {
     pub console: u8,
     pub low: u16,
     pub reads: &'a [u8],
     pub writes: &'a [u8],
-}
-
-// Whether each number that pairs of bytes are is below a bound.
-fn pairs_below(bytes: &[u8], bound: u32) -> bool
-    ensures { result ≡ below bound (pairs bytes.now) }
-{
-    let mut rest = bytes;
-    while let [h, l, after @ ..] = rest {
-        if *h as u32 * 256 + *l as u32 >= bound {
-            return false;
-        }
-        rest = after;
-    }
-    true
 }
 
 /// Whether the numbers in the head of the entry at a place are in range: its console, how many versions
@@ -80,50 +68,18 @@ pub fn head_fits(console: u32, reads: usize, writes: usize, low: u32, place: u32
     console < 16 && reads <= 64 && writes <= 16 && 1 <= low && low <= place
 }
 
-impl Entry<'_> {
-    // Whether each field of the entry at a place is in range, where `bound` versions were made before it.
-    fn fits_at(&self, place: u32, bound: u32) -> bool
-        ensures { result ≡ fits place bound (said self.now) }
+impl<'a> Entry<'a> {
+    /// The versions that it noted.
+    pub fn noted(&self) -> Pairs<'a>
+        ensures { Gives result (said self.now).reads }
     {
-        if !head_fits(
-            self.console as u32,
-            self.reads.len() / 2,
-            self.writes.len() / 2,
-            self.low as u32,
-            place,
-        ) {
-            return false;
-        }
-        if !pairs_below(self.reads, bound) {
-            return false;
-        }
-        pairs_below(self.writes, bound)
+        Pairs::of(self.reads)
     }
-}
 
-// The entry at a place, if the bytes begin with one whose fields are in range, and the bytes behind it.
-fn entry_at<'a>(bytes: &'a [u8], place: u32, bound: u32) -> Option<(Entry<'a>, &'a [u8])>
-    ensures { option_map (λ p. (said p.0, p.1.now)) result ≡ entry_at place bound bytes.now }
-{
-    let [console, reads, writes, high, low, rest @ ..] = bytes else {
-        return None;
-    };
-    let nr = 2 * *reads as usize;
-    let nw = 2 * *writes as usize;
-    if nr + nw > rest.len() {
-        return None;
+    /// The versions that it overwrote.
+    pub fn overwritten(&self) -> Pairs<'a>
+        ensures { Gives result (said self.now).writes }
+    {
+        Pairs::of(self.writes)
     }
-    let (versions, after) = rest.split_at(nr + nw);
-    let (reads, writes) = versions.split_at(nr);
-    let low = *high as u16 * 256 + *low as u16;
-    let entry = Entry {
-        console: *console,
-        low,
-        reads,
-        writes,
-    };
-    if !entry.fits_at(place, bound) {
-        return None;
-    }
-    Some((entry, after))
 }

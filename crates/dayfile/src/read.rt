@@ -1,35 +1,14 @@
 // The reader.
-ghost use Rattle.std.specs.Prelude.{◌≡◌, ℕ, ◌+◌, ◌*◌, ◌/◌, ◌^◌, ◌<◌, ◌≤◌, min, Bool, true, false, length, take, drop, is_some, IfOk, MatchOption, OnSome};
+ghost use Rattle.std.specs.Prelude.{◌≡◌, ℕ, ◌+◌, ◌*◌, ◌/◌, ◌^◌, ◌<◌, ◌≤◌, min, false, length, take, drop, is_some, IfOk, MatchOption};
 ghost use Rattle.std.specs.Option.{option_map};
+ghost use Rattle.std.specs.Iterator.{at_most};
 ghost use Rattle.store.specs.Refusals.{answer_by};
 ghost use Rattle.dayfile.specs.Refusals.{code_of};
 ghost use Rattle.dayfile.specs.Format.{pairs};
-ghost use Rattle.dayfile.specs.Reading.{entries_in, read_of, points, marked, Says, Whole, walk_at, step_of};
+ghost use Rattle.dayfile.specs.Reading.{entry_at, entries_in, read_of, points, marked, Says, Whole, walk_at, step_of};
 ghost use Rattle.dayfile.specs.Said.{said, shape_of, walk_of};
-ghost use Rattle.std.specs.Iterator.{at_most};
 
-use crate::{DayFile, Entries, Entry, FileRefusal, entry_at};
-
-// Whether n entries from a place on fill the bytes exactly.
-fn entries_fill(bytes: &[u8], n: u16, place: u32, bound: u32) -> bool
-    requires { (place + n ≤ 65536) × (bound + 16 * n < 2 ^ 32) }
-    ensures { result ≡ is_some (entries_in n place bound bytes.now) }
-{
-    let mut rest = bytes;
-    let mut made = bound;
-    let mut at = place;
-    let mut left = n;
-    while left > 0 {
-        let Some((entry, after)) = entry_at(rest, at, made) else {
-            return false;
-        };
-        rest = after;
-        made += entry.writes.len() as u32 / 2;
-        at += 1;
-        left -= 1;
-    }
-    rest.is_empty()
-}
+use crate::{DayFile, Entries, Entry, FileRefusal, Pairs, Spot};
 
 // What a trailer says behind its mark.
 #[derive(Clone, Copy)]
@@ -39,26 +18,27 @@ pub(crate) struct Trailer {
     len: u32,
 }
 
-// Takes a trailer apart, if it begins with the mark.
-fn trailer_in(tail: &[u8]) -> Option<Trailer>
-    requires { length tail.now ≡ 10 }
-    ensures { MatchOption result (marked tail.now ≡ false) (λ t. Says tail.now t.records t.count t.len) }
-{
-    let [0x52, 0x54, rh, rl, nh, nl, a, b, c, d, ..] = tail else {
-        return None;
-    };
-    Some(Trailer {
-        records: *rh as u16 * 256 + *rl as u16,
-        count: *nh as u16 * 256 + *nl as u16,
-        len: *a as u32 * 0x100_0000 + *b as u32 * 0x1_0000 + *c as u32 * 0x100 + *d as u32,
-    })
-}
+impl Trailer {
+    // Takes a trailer apart, if it begins with the mark.
+    fn read(tail: &[u8; 10]) -> Option<Trailer>
+        ensures { MatchOption result (marked tail.now ≡ false) (λ t. Says tail.now t.records t.count t.len) }
+    {
+        let [0x52, 0x54, rh, rl, nh, nl, a, b, c, d] = *tail else {
+            return None;
+        };
+        Some(Trailer {
+            records: u16::from_be_bytes([rh, rl]),
+            count: u16::from_be_bytes([nh, nl]),
+            len: u32::from_be_bytes([a, b, c, d]),
+        })
+    }
 
-// Whether a trailer's numbers are in range, with that many bytes in front of it.
-fn well_pointed(records: u16, count: u16, len: u32, front: usize) -> bool
-    ensures { result ≡ points records count len front }
-{
-    1 <= records && records <= 256 && count <= 4000 && len as usize <= front
+    // Whether its numbers are in range, with that many bytes in front of it.
+    fn well_pointed(self, front: usize) -> bool
+        ensures { result ≡ points self.records self.count self.len front }
+    {
+        1 <= self.records && self.records <= 256 && self.count <= 4000 && self.len as usize <= front
+    }
 }
 
 impl<'a> DayFile<'a> {
@@ -68,29 +48,22 @@ impl<'a> DayFile<'a> {
         ensures answer { answer_by shape_of code_of result ≡ read_of input.now }
         ensures whole { IfOk result (λ f. Whole (shape_of f)) }
     {
-        if input.len() < 10 {
-            return Err(FileRefusal::Short);
-        }
-        let at = input.len() - 10;
-        let (_, tail) = input.split_at(at);
-        let Some(t) = trailer_in(tail) else {
-            return Err(FileRefusal::Mark);
-        };
-        if !well_pointed(t.records, t.count, t.len, at) {
+        let (front, tail) = input.split_last_chunk().ok_or(FileRefusal::Short)?;
+        let trailer = Trailer::read(tail).ok_or(FileRefusal::Mark)?;
+        if !trailer.well_pointed(front.len()) {
             return Err(FileRefusal::Pointer);
         }
-        let offset = at - t.len as usize;
-        let (_, part) = input.split_at(offset);
-        let (body, _) = part.split_at(t.len as usize);
-        if !entries_fill(body, t.count, 1, t.records as u32) {
+        let offset = front.len() - trailer.len as usize;
+        let file = DayFile {
+            part: &input[offset..],
+            offset,
+            records: trailer.records,
+            count: trailer.count,
+        };
+        if !file.entries().fill() {
             return Err(FileRefusal::Entry);
         }
-        Ok(DayFile {
-            part,
-            offset,
-            records: t.records,
-            count: t.count,
-        })
+        Ok(file)
     }
 
     /// A walk over the file's entries, in turn.
@@ -101,31 +74,45 @@ impl<'a> DayFile<'a> {
         Entries {
             rest: body,
             left: self.count,
-            place: 1,
-            bound: self.records as u32,
+            spot: Spot {
+                place: 1,
+                bound: u32::from(self.records),
+            },
         }
     }
 }
 
 impl<'a> Entries<'a> {
-    // The next entry; none, and the walk stays, where no entry is left or the bytes do not say one.
-    fn step(&mut self) -> Option<Entry<'a>>
-        ensures gives { (option_map said result, walk_of self.new) ≡ step_of (walk_of self.old) }
-        ensures fewer { OnSome result (self.new.left < self.old.left) }
+    // The next entry, if the bytes begin with one whose fields are in range, and the bytes behind it.
+    fn front(&self) -> Option<(Entry<'a>, &'a [u8])>
+        ensures { option_map (λ p. (said p.0, p.1.now)) result ≡ entry_at self.now.spot.place self.now.spot.bound self.now.rest.now }
     {
-        if self.left == 0 {
-            return None;
-        }
-        let Some((entry, after)) = entry_at(self.rest, self.place, self.bound) else {
-            return None;
+        let ([console, reads, writes, high, low], rest) = self.rest.split_first_chunk::<5>()?;
+        let noted = 2 * usize::from(*reads);
+        let (versions, after) = rest.split_at_checked(noted + 2 * usize::from(*writes))?;
+        let (reads, writes) = versions.split_at(noted);
+        let entry = Entry {
+            console: *console,
+            low: u16::from_be_bytes([*high, *low]),
+            reads,
+            writes,
         };
-        *self = Entries {
-            rest: after,
-            left: self.left - 1,
-            place: self.place + 1,
-            bound: self.bound + entry.writes.len() as u32 / 2,
-        };
-        Some(entry)
+        let fits = self.spot.fits(
+            u32::from(entry.console),
+            u32::from(entry.low),
+            entry.noted(),
+            entry.overwritten(),
+        );
+        fits.then_some((entry, after))
+    }
+
+    // Whether the entries that are left are all there, and fill the bytes exactly.
+    fn fill(mut self) -> bool
+        ensures { result ≡ is_some (entries_in self.entry.left self.entry.spot.place self.entry.spot.bound self.entry.rest.now) }
+    {
+        // Kept: after a `for` over `&mut self`, which was tried, nothing is known of what is left in the walk.
+        while self.next().is_some() {}
+        self.left == 0 && self.rest.is_empty()
     }
 }
 
@@ -136,16 +123,23 @@ impl<'a> Iterator for Entries<'a> {
 
     ghost next_gives = { λ s r t. (option_map said r, walk_of t) ≡ step_of (walk_of s) };
 
+    // The next entry; none, and the walk stays, where no entry is left or the bytes do not say one.
+    #[tactic(auto, using(crate::proofs::Walks::few_writes))]
     fn next(&mut self) -> Option<Entry<'a>> {
-        self.step()
+        if self.left == 0 {
+            return None;
+        }
+        let (entry, after) = self.front()?;
+        *self = Entries {
+            rest: after,
+            left: self.left - 1,
+            spot: Spot {
+                place: self.spot.place + 1,
+                bound: self.spot.bound + entry.writes.len() as u32 / 2,
+            },
+        };
+        Some(entry)
     }
-}
-
-// The number of a pair of bytes.
-fn number(high: u8, low: u8) -> u32
-    ensures { result ≡ high * 256 + low }
-{
-    high as u32 * 256 + low as u32
 }
 
 /// Puts the numbers that pairs of bytes are into the front of a list, as many as it has places for,
@@ -155,15 +149,10 @@ pub fn unpack(bytes: &[u8], out: &mut [u32]) -> usize
     ensures front { take result out.new ≡ take result (pairs bytes.now) }
     ensures rest { drop result out.new ≡ drop result out.old }
 {
-    let mut rest = bytes;
-    let mut n = 0;
-    while let [h, l, after @ ..] = rest {
-        if n >= out.len() {
-            return n;
-        }
-        out[n] = number(*h, *l);
-        n += 1;
-        rest = after;
+    let count = out.len().min(bytes.len() / 2);
+    // Kept: in a `for` over `out.iter_mut().zip(..)`, which was tried, a proof has no name for what the list holds.
+    for (i, number) in Pairs::of(bytes).take(count).enumerate() {
+        out[i] = number;
     }
-    n
+    count
 }

@@ -1,20 +1,16 @@
 -- Laws of writing over a part of a buffer.
-use Rattle.std.proofs.Common.{◌≡◌, ℕ, zero, suc, ◌+◌, ◌*◌, ◌/◌, ◌%◌, ◌<◌, ◌≤◌, true, false, ◌&&◌, List, [], ◌∷◌, ◌++◌, length, get_or, take, drop, sym, refl, ap, ◌∙◌, arith, ltb-true, le-ltb, lt-ltb}
+use Rattle.std.proofs.Common.{◌≡◌, ℕ, zero, suc, ◌+◌, ◌*◌, ◌/◌, ◌%◌, ◌<◌, ◌≤◌, true, ltb, List, [], ◌∷◌, ◌++◌, length, get_or, take, drop, sym, refl, ap, ◌∙◌, arith, ltb-true, lt-ltb, w16}
 use lib.Seq.{paste}
-use borrow.Rule.Slice.PartMut.{put_mid}
 use Rattle.std.proofs.lemmas.List.Edits.{paste_all, paste-paste, length-paste}
-use Rattle.std.proofs.lemmas.List.{length-append, take-append-drop, take_more, length-take-le, at_drop_more}
-use Rattle.std.proofs.lemmas.Slice.{put_mid-paste}
-use Rattle.std.proofs.lemmas.Bool.{and_parts}
+use Rattle.std.proofs.lemmas.List.{length-append, take-append-drop, take_more, length-take-le}
+use Rattle.std.proofs.lemmas.Bool.{and_parts, and_from}
+use Rattle.std.specs.Int.{to_be_bytes}
 use Rattle.dayfile.specs.Format.{Commit, twos, below, entry_bytes}
 use Rattle.dayfile.proofs.Bytes.{length_twos}
 use Rattle.daywriter.specs.Writing.{over}
 
 pub over_paste : (b : List ℕ) (at : ℕ) (s : List ℕ) → paste b at s (length s) ≡ over b at s
 over_paste b at s = paste_all b at s (length s) refl
-
-pub put_over : (b : List ℕ) (at k : ℕ) (s ys : List ℕ) → ys ≡ s → k ≡ length s → put_mid at k b ys ≡ over b at s
-put_over b at k s ys e h = put_mid-paste at k b ys s (length s) e (sym h) refl ∙ over_paste b at s
 
 pub over_more : (b : List ℕ) (at : ℕ) (s t : List ℕ) → at ≤ length b → over (over b at s) (at + length s) t ≡ over b at (s ++ t)
 over_more b at s t h =
@@ -34,6 +30,10 @@ pub twos_append : (xs ys : List ℕ) → twos (xs ++ ys) ≡ twos xs ++ twos ys
 twos_append [] ys = refl
 twos_append (x ∷ xs) ys = ap (λ l. x / 256 ∷ x % 256 ∷ l) (twos_append xs ys)
 
+-- a number's two bytes
+pub be_two : (n : ℕ) → n < 65536 → to_be_bytes w16 n ≡ n / 256 ∷ n % 256 ∷ []
+be_two n h = let high : n / 256 % 256 ≡ n / 256 = omega arith in λ i. high i ∷ n % 256 ∷ []
+
 -- one more number of a list that is written
 pub twos_more : (b : List ℕ) (at : ℕ) (xs : List ℕ) (i : ℕ) → i < length xs → at + 2 * length xs ≤ length b
     → over (over b at (twos (take i xs))) (at + 2 * i) (get_or xs i 0 / 256 ∷ get_or xs i 0 % 256 ∷ []) ≡ over b at (twos (take (i + 1) xs))
@@ -49,15 +49,15 @@ below_at n [] i b h = absurd (omega arith)
 below_at n (x ∷ xs) zero b h = ltb-true _ _ (and_parts _ _ b).0
 below_at n (x ∷ xs) (suc i) b h = below_at n xs i (and_parts _ _ b).1 (omega arith)
 
+pub below_wider : (m n : ℕ) (xs : List ℕ) → m ≤ n → below m xs ≡ true → below n xs ≡ true
+below_wider m n [] h b = refl
+below_wider m n (x ∷ xs) h b =
+    let p = and_parts _ _ b in
+    let lt = ltb-true x m p.0 in
+    and_from (ltb x n) (below n xs) (lt-ltb x n (omega arith)) (below_wider m n xs h p.1)
+
 pub length_entry : (e : Commit) → length (entry_bytes e) ≡ 5 + 2 * length e.reads + 2 * length e.writes
 length_entry e = let a = length-append (twos e.reads) (twos e.writes) in let r = length_twos e.reads in let w = length_twos e.writes in omega arith
-
--- a loop over numbers that are to be below n
-pub below_more : (n : ℕ) (xs : List ℕ) (i : ℕ) → i < length xs → get_or xs i 0 < n → below n (drop (i + 1) xs) ≡ below n (drop i xs)
-below_more n xs i h lt = sym (at_drop_more (below n) xs i 0 h ∙ ap (λ v. v && below n (drop (i + 1) xs)) (lt-ltb _ _ lt))
-
-pub below_fails : (n : ℕ) (xs : List ℕ) (i : ℕ) → i < length xs → n ≤ get_or xs i 0 → below n (drop i xs) ≡ false
-below_fails n xs i h le = at_drop_more (below n) xs i 0 h ∙ ap (λ v. v && below n (drop (i + 1) xs)) (le-ltb _ _ le)
 
 -- the three writes of an entry
 pub entry_over : (b : List ℕ) (at : ℕ) (e : Commit) (b₁ b₂ b₃ : List ℕ) → at + length (entry_bytes e) ≤ length b

@@ -8,15 +8,15 @@ use Rattle.store.specs.Refusals.Answer.{gives, refuses}
 use Rattle.dayfile.specs.Refusals.{too_short, bad_pointer, bad_entry, file_full}
 use Rattle.dayfile.specs.Format.{Commit, pairs, entry_bytes, body_bytes, trailer_bytes, file_bytes, fits, sound}
 use Rattle.dayfile.specs.Reading.{Shape, Whole, Walk, read_of, entries_of, walk_at, step_of, onto}
-use Rattle.dayfile.proofs.Walks.{to_come, step_gives, step_ends, none_is}
+use Rattle.dayfile.proofs.Walks.{to_come, fits_came, step_gives, step_ends, none_is}
 use Rattle.dayfile.proofs.Bytes.{length_pairs}
 use Rattle.dayfile.proofs.Back.{read_back, entries_of_file}
 use Rattle.dayfile.proofs.Again.{past_first, past_last, refused_gives}
-use Rattle.daywriter.specs.Writing.{over, Extent, Writer, started, start_of, has_room, taking, after, added, close_of}
+use Rattle.daywriter.specs.Writing.{over, FitsBytes, Extent, Writer, started, start_of, has_room, taking, after, added, close_of}
 use Rattle.daywriter.specs.Files.{and_then, taken_all, check_all, Reads, Rewritten}
 use Rattle.daywriter.specs.declared.NewEntry.{NewEntry}
 use Rattle.daywriter.specs.Stands.{wrote}
-use Rattle.daywriter.proofs.Overs.{over_more, over_none, length_over}
+use Rattle.daywriter.proofs.Overs.{over_more, over_none, length_over, below_wider}
 
 -- how many versions entries make
 abbrev pub writes_in : List Commit → ℕ
@@ -51,6 +51,19 @@ taken_from room x e ok =
     let c = past_last (has_room room x (length (entry_bytes e))) file_full (gives tt) tt a.1 in
     let d = and_parts (ltb x.count 4000) (leb (x.at + length (entry_bytes e) + 10) room) c.0 in
     record { fit = a.0; more = ltb-true x.count 4000 d.0; within = leb-true (x.at + length (entry_bytes e) + 10) room d.1 }
+
+-- its fields fit their bytes, where few entries and few versions came before it
+pub taken_bytes : (room : ℕ) (x : Extent) (e : Commit) → x.count ≤ 4000 → x.made ≤ 65536 → taking room x e ≡ gives tt → FitsBytes e
+taken_bytes room x e few made ok =
+    let came = fits_came (x.count + 1) x.made e (taken_from room x e ok).fit in
+    record {
+      console = omega (arith, came.console);
+      reads = omega (arith, came.reads);
+      writes = omega (arith, came.writes);
+      low = omega (arith, came.high);
+      read = below_wider x.made 65536 e.reads made came.old;
+      written = below_wider x.made 65536 e.writes made came.over;
+    }
 
 pub taken_to : (room : ℕ) (x : Extent) (e : Commit) → Taken room x e → taking room x e ≡ gives tt
 taken_to room x e t =
@@ -169,11 +182,8 @@ module _ (xs : List NewEntry) (i : ℕ) (h : i < length xs) where
   pub front_at : map wrote (take (i + 1) xs) ≡ map wrote (take i xs) ++ wrote (get_or xs i blank) ∷ []
   front_at = ap (map wrote) (take_more xs i blank h) ∙ map-append wrote (take i xs) (get_or xs i blank ∷ [])
 
--- a check of entries goes on past one that is taken, and stops at one that is refused
+-- a check of entries stops at one that is refused
 module _ (room : ℕ) (x : Extent) (e : Commit) (es : List Commit) where
-  pub take_on : gives tt ≡ taking room x e → taken_all room (after x e) es ≡ taken_all room x (e ∷ es)
-  take_on h = ap (λ a. and_then a (λ u. taken_all room (after x e) es)) h
-
   pub take_not : (c : Code) → refuses c ≡ taking room x e → refuses c ≡ taken_all room x (e ∷ es)
   take_not c h = ap (λ a. and_then a (λ u. taken_all room (after x e) es)) h
 

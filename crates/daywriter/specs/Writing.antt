@@ -1,13 +1,22 @@
 -- A day file written: what starting, adding and closing answer, and what they leave.
-use Rattle.std.specs.Prelude.{ℕ, ◌+◌, Bool, cond, ◌&&◌, List, ◌++◌, length, take, drop, nat_le, nat_lt}
+use Rattle.std.specs.Prelude.{◌≡◌, ℕ, ◌+◌, ◌<◌, Bool, true, cond, ◌&&◌, List, ◌++◌, length, take, drop, nat_le, nat_lt}
 use Rattle.store.specs.Refusals.{Answer}
 use Rattle.store.specs.Refusals.Answer.{gives, refuses}
 use Rattle.dayfile.specs.Refusals.{too_short, bad_pointer, bad_entry, file_full}
-use Rattle.dayfile.specs.Format.{Commit, fits, entry_bytes, trailer_bytes}
+use Rattle.dayfile.specs.Format.{Commit, below, fits, entry_bytes, trailer_bytes}
 
 -- b with s over it from a place on; its other bytes stay
 abbrev pub over : List ℕ → ℕ → List ℕ → List ℕ
 over b at s = take at b ++ (s ++ drop (at + length s) b)
+
+-- each field of an entry fits the bytes that a file has for it
+pub record FitsBytes (e : Commit) : Type 0 where
+  pub console : e.console < 256
+  pub reads : length e.reads < 256
+  pub writes : length e.writes < 256
+  pub low : e.low < 65536
+  pub read : below 65536 e.reads ≡ true
+  pub written : below 65536 e.writes ≡ true
 
 -- how far a file has come: its records, the entries so far, the versions made, and the bytes
 pub record Extent : Type 0 where

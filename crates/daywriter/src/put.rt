@@ -1,10 +1,10 @@
 // What the writer puts into its buffer.
-ghost use Rattle.std.specs.Prelude.{◌≡◌, ℕ, ◌+◌, ◌*◌, ◌/◌, ◌%◌, ◌^◌, ◌<◌, ◌≤◌, true, [], ◌∷◌, length};
-ghost use Rattle.dayfile.specs.Format.{below, fits, twos, entry_bytes, trailer_bytes};
-ghost use Rattle.daywriter.specs.Writing.{over};
+ghost use Rattle.std.specs.Prelude.{◌≡◌, ℕ, ◌+◌, ◌*◌, ◌≤◌, true, length};
+ghost use Rattle.dayfile.specs.Format.{below, twos, entry_bytes, trailer_bytes};
+ghost use Rattle.daywriter.specs.Writing.{over, FitsBytes};
 ghost use Rattle.daywriter.specs.Stands.{wrote};
 
-use crate::NewEntry;
+use crate::{NewEntry, Progress};
 
 // Puts bytes over those of a buffer from a place on.
 fn put(buf: &mut [u8], at: usize, src: &[u8])
@@ -14,62 +14,39 @@ fn put(buf: &mut [u8], at: usize, src: &[u8])
     buf[at..at + src.len()].copy_from_slice(src);
 }
 
-// Puts a number in two bytes.
-fn put_two(buf: &mut [u8], at: usize, n: u32)
-    requires { (at + 2 ≤ length buf.old) × (n < 65536) }
-    ensures { buf.new ≡ over buf.old at (n / 256 ∷ n % 256 ∷ []) }
-{
-    put(buf, at, &[(n / 256) as u8, (n % 256) as u8]);
-}
-
-// Puts numbers below a bound in two bytes each.
-fn put_list(buf: &mut [u8], at: usize, xs: &[u32], bound: u32)
+// Puts numbers in two bytes each.
+fn put_list(buf: &mut [u8], at: usize, xs: &[u32])
     requires room { at + 2 * length xs.now ≤ length buf.old }
-    requires small { (below bound xs.now ≡ true) × (bound ≤ 65536) }
+    requires small { below 65536 xs.now ≡ true }
     ensures { buf.new ≡ over buf.old at (twos xs.now) }
 {
-    let mut p = at;
-    for x in xs {
-        put_two(buf, p, *x);
-        p += 2;
+    for (i, x) in xs.iter().enumerate() {
+        put(buf, at + 2 * i, &(*x as u16).to_be_bytes());
     }
 }
 
-// Puts an entry whose fields are in range.
-pub(crate) fn put_entry(buf: &mut [u8], at: usize, e: &NewEntry, place: u32, bound: u32)
+// Puts an entry.
+pub(crate) fn put_entry(buf: &mut [u8], at: usize, e: &NewEntry)
     requires room { at + length (entry_bytes (wrote e.now)) ≤ length buf.old }
-    requires fit { (fits place bound (wrote e.now) ≡ true) × (place < 65536) × (bound ≤ 65536) }
+    requires fits { FitsBytes (wrote e.now) }
     ensures { buf.new ≡ over buf.old at (entry_bytes (wrote e.now)) }
 {
-    let reads = e.reads.len();
-    let head = [
-        e.console as u8,
-        reads as u8,
-        e.writes.len() as u8,
-        (e.low / 256) as u8,
-        (e.low % 256) as u8,
-    ];
+    let (reads, writes) = (e.reads.len(), e.writes.len());
+    let [high, low] = (e.low as u16).to_be_bytes();
+    let head = [e.console as u8, reads as u8, writes as u8, high, low];
     put(buf, at, &head);
-    put_list(buf, at + 5, e.reads, bound);
-    put_list(buf, at + 5 + 2 * reads, e.writes, bound);
+    put_list(buf, at + 5, e.reads);
+    put_list(buf, at + 5 + 2 * reads, e.writes);
 }
 
-// Puts a trailer behind so many bytes of entries.
-pub(crate) fn put_trailer(buf: &mut [u8], at: usize, records: u32, count: u32)
-    requires { (at + 10 ≤ length buf.old) × ((at < 2 ^ 32) × ((records < 65536) × (count < 65536))) }
-    ensures { buf.new ≡ over buf.old at (trailer_bytes records count at) }
+// Puts the trailer behind the entries.
+pub(crate) fn put_trailer(buf: &mut [u8], progress: Progress)
+    requires { progress.at + 10 ≤ length buf.old }
+    ensures { buf.new ≡ over buf.old progress.at (trailer_bytes progress.records progress.count progress.at) }
 {
-    let trailer = [
-        0x52,
-        0x54,
-        (records / 256) as u8,
-        (records % 256) as u8,
-        (count / 256) as u8,
-        (count % 256) as u8,
-        (at / 0x100_0000) as u8,
-        (at / 0x1_0000 % 256) as u8,
-        (at / 0x100 % 256) as u8,
-        (at % 256) as u8,
-    ];
-    put(buf, at, &trailer);
+    let [rh, rl] = (progress.records as u16).to_be_bytes();
+    let [nh, nl] = (progress.count as u16).to_be_bytes();
+    let [a, b, c, d] = (progress.at as u32).to_be_bytes();
+    let trailer = [0x52, 0x54, rh, rl, nh, nl, a, b, c, d];
+    put(buf, progress.at, &trailer);
 }

@@ -26,5 +26,6 @@ pub struct OpenFile<'a> {
 #[derive(Drop)]
 pub struct ClosedFile<'a> {
     pub(crate) buf: &'a mut [u8],
+    // Kept: the lent buffer goes back to the caller whole, so the file's length stands beside it.
     pub(crate) len: usize,
 }

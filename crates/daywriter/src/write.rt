@@ -3,46 +3,15 @@ ghost use Rattle.std.specs.Prelude.{◌≡◌, ℕ, ◌+◌, ◌*◌, ◌<◌, �
 ghost use Rattle.store.specs.Refusals.{answer_by};
 ghost use Rattle.store.specs.Refusals.Answer.{gives};
 ghost use Rattle.dayfile.specs.Refusals.{code_of};
-ghost use Rattle.dayfile.specs.Format.{below, fits, entry_bytes};
+ghost use Rattle.dayfile.specs.Format.{fits, entry_bytes};
 ghost use Rattle.daywriter.specs.Writing.{started, start_of, has_room, taking, after, added, add_of, close_of};
-ghost use Rattle.daywriter.specs.Stands.{wrote, extent_of, writer_of, closed_of};
+ghost use Rattle.daywriter.specs.Stands.{wrote, extent_of, writer, writer_of, closed_of};
 
 use crate::put::{put_entry, put_trailer};
 use crate::{ClosedFile, NewEntry, OpenFile, Progress};
-use dayfile::{FileRefusal, head_fits};
-
-// Whether each number of a list is below a bound.
-fn numbers_below(xs: &[u32], bound: u32) -> bool
-    ensures { result ≡ below bound xs.now }
-{
-    for x in xs {
-        if *x >= bound {
-            return false;
-        }
-    }
-    true
-}
+use dayfile::{FileRefusal, Spot};
 
 impl NewEntry<'_> {
-    // Whether each field of the entry at a place is in range, where `bound` versions were made before it.
-    fn fits_at(&self, place: u32, bound: u32) -> bool
-        ensures { result ≡ fits place bound (wrote self.now) }
-    {
-        if !head_fits(
-            self.console,
-            self.reads.len(),
-            self.writes.len(),
-            self.low,
-            place,
-        ) {
-            return false;
-        }
-        if !numbers_below(self.reads, bound) {
-            return false;
-        }
-        numbers_below(self.writes, bound)
-    }
-
     // How many bytes the entry takes.
     fn size(&self) -> usize
         requires { (length self.now.reads.now ≤ 64) × (length self.now.writes.now ≤ 16) }
@@ -80,6 +49,16 @@ impl Progress {
         }
     }
 
+    // Where the next entry stands.
+    fn spot(self) -> Spot
+        ensures { result ≡ record { place = self.count + 1; bound = self.made } }
+    {
+        Spot {
+            place: self.count + 1,
+            bound: self.made,
+        }
+    }
+
     // Whether one more entry of so many bytes may come, and fits in front of the trailer.
     fn has_room(self, room: usize, size: usize) -> bool
         requires { size ≤ 165 }
@@ -92,7 +71,7 @@ impl Progress {
     pub(crate) fn check(self, room: usize, e: &NewEntry) -> Result<(), FileRefusal>
         ensures { answer_by (λ u. u) code_of result ≡ taking room (extent_of self) (wrote e.now) }
     {
-        if !e.fits_at(self.count + 1, self.made) {
+        if !self.spot().fits(e.console, e.low, e.reads, e.writes) {
             return Err(FileRefusal::Entry);
         }
         if !self.has_room(room, e.size()) {
@@ -115,6 +94,27 @@ impl Progress {
         }
     }
 
+    // Adds an entry that is taken to the file, in its buffer.
+    pub(crate) fn put(&mut self, buf: &mut [u8], e: &NewEntry)
+        requires { taking (length buf.old) (extent_of self.old) (wrote e.now) ≡ gives tt }
+        ensures { writer self.new buf.new ≡ added (writer self.old buf.old) (wrote e.now) }
+    {
+        put_entry(buf, self.at, e);
+        *self = self.after(e);
+    }
+
+    // Writes the trailer behind the file's entries in its buffer, and answers how many bytes the file has: none,
+    // where the buffer has no room for the trailer.
+    pub(crate) fn close(self, buf: &mut [u8]) -> usize
+        ensures { record { bytes = buf.new; len = result } ≡ close_of (writer self buf.old) }
+    {
+        if self.at + 10 > buf.len() {
+            return 0;
+        }
+        put_trailer(buf, self);
+        self.at + 10
+    }
+
     /// Opens the file in a buffer. Where that is too short for a trailer, the file refuses every entry that is in range (34),
     /// and closing it writes nothing.
     pub fn open<'a>(self, buf: &'a mut [u8]) -> OpenFile<'a>
@@ -135,19 +135,8 @@ impl<'a> OpenFile<'a> {
         ensures lent { self.new.buf.ghost_name ≡ self.old.buf.ghost_name }
     {
         self.progress.check(self.buf.len(), e)?;
-        self.put(e);
+        self.progress.put(self.buf, e);
         Ok(())
-    }
-
-    // Adds an entry that is taken.
-    pub(crate) fn put(&mut self, e: &NewEntry)
-        requires { taking (length self.old.buf.now) (extent_of self.old.progress) (wrote e.now) ≡ gives tt }
-        ensures does { writer_of self.new ≡ added (writer_of self.old) (wrote e.now) }
-        ensures lent { self.new.buf.ghost_name ≡ self.old.buf.ghost_name }
-    {
-        let p = self.progress;
-        put_entry(self.buf, p.at, e, p.count + 1, p.made);
-        self.progress = p.after(e);
     }
 
     /// Closes the file: the trailer is written behind its entries, and it takes no more.
@@ -156,19 +145,14 @@ impl<'a> OpenFile<'a> {
         ensures lent { result.buf.ghost_name ≡ self.entry.buf.ghost_name }
     {
         let OpenFile { buf, progress } = self;
-        if progress.at + 10 > buf.len() {
-            return ClosedFile { buf, len: 0 };
-        }
-        put_trailer(buf, progress.at, progress.records, progress.count);
-        ClosedFile {
-            buf,
-            len: progress.at + 10,
-        }
+        let len = progress.close(buf);
+        ClosedFile { buf, len }
     }
 }
 
 impl<'a> ClosedFile<'a> {
     /// The buffer, and how many bytes at its front are the file.
+    // Kept: the caller lent the whole buffer and gets the whole of it back, so the file's length stands beside it.
     pub fn bytes(self) -> (&'a mut [u8], usize)
         ensures bytes { (result.0.now ≡ (closed_of self.entry).bytes) × (result.1 ≡ (closed_of self.entry).len) }
         ensures lent { result.0.ghost_name ≡ self.entry.buf.ghost_name }

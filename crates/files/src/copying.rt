@@ -14,15 +14,15 @@ const COPIES: [(usize, usize); 6] = [(23, 24), (23, 21), (23, 20), (23, 0), (9, 
 /// Shows what is copied and what is refused, and the buffer afterwards.
 pub(crate) fn show(rt: HostRuntime) -> io::Result<()> {
     println!(rt; "# copying")?;
-    for c in &COPIES {
-        print!(rt; "a copy of {} bytes into {}: ", c.0, c.1)?;
+    for (end, room) in COPIES {
+        print!(rt; "a copy of {end} bytes into {room}: ")?;
         let mut buf = [0xEEu8; 24];
-        copy(rt, &JUNK[0..c.0.min(23)], &mut buf[0..c.1.min(24)])?;
+        copy(rt, &JUNK[..end.min(23)], &mut buf[..room.min(24)])?;
     }
     Ok(())
 }
 
 fn copy(rt: HostRuntime, input: &[u8], buf: &mut [u8]) -> io::Result<()> {
-    let (buf, answer) = copy_file(input, buf);
+    let answer = copy_file(input, buf);
     filled(rt, answer, buf)
 }

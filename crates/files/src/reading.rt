@@ -5,7 +5,7 @@ use crate::say::{SKEW, entries, read};
 use std::io;
 
 // Bytes of the write-skew day to change, and to what: console, low mark, versions, mark, records, count, length.
-const CHANGES: [(u8, u8); 22] = [
+const CHANGES: [(usize, u8); 22] = [
     (0, 0x0F),
     (0, 0x10),
     (4, 0),
@@ -75,11 +75,11 @@ fn shorts(rt: HostRuntime) -> io::Result<()> {
 
 // The write-skew day with one byte changed.
 fn changes(rt: HostRuntime) -> io::Result<()> {
-    for c in &CHANGES {
+    for (at, value) in CHANGES {
         let mut file = SKEW;
-        print!(rt; "byte {} as {:02X}: ", c.0, c.1)?;
-        if c.0 < 21 {
-            file[c.0 as usize] = c.1;
+        print!(rt; "byte {at} as {value:02X}: ")?;
+        if let Some(byte) = file.get_mut(at) {
+            *byte = value;
         }
         read(rt, &file)?;
     }
@@ -97,12 +97,13 @@ fn trailers(rt: HostRuntime) -> io::Result<()> {
 
 // A second entry behind a first, which made version 2.
 fn seconds(rt: HostRuntime) -> io::Result<()> {
-    for s in &SECOND {
-        print!(rt; "second entry, low mark {}, version {} of 3: ", s.0, s.1)?;
+    for (low, version) in SECOND {
+        print!(rt; "second entry, low mark {low}, version {version} of 3: ")?;
         read(
             rt,
             &[
-                0, 0, 1, 0, 1, 0, 0, 1, 1, 0, 0, s.0, 0, s.1, 0x52, 0x54, 0, 2, 0, 2, 0, 0, 0, 14,
+                0, 0, 1, 0, 1, 0, 0, 1, 1, 0, 0, low, 0, version, 0x52, 0x54, 0, 2, 0, 2, 0, 0, 0,
+                14,
             ],
         )?;
     }
@@ -110,12 +111,12 @@ fn seconds(rt: HostRuntime) -> io::Result<()> {
 }
 
 fn lists(rt: HostRuntime) -> io::Result<()> {
-    for l in &LISTS {
-        print!(rt; "noted {}, overwritten {}: ", l.0, l.1)?;
+    for (reads, writes) in LISTS {
+        print!(rt; "noted {reads}, overwritten {writes}: ")?;
         let mut file = [0u8; 179];
-        let len = listed(&mut file, l.0.min(65), l.1.min(17));
+        let len = listed(&mut file, reads.min(65), writes.min(17));
         if len <= file.len() {
-            read(rt, &file[0..len])?;
+            read(rt, &file[..len])?;
         }
     }
     Ok(())
@@ -125,7 +126,7 @@ fn lists(rt: HostRuntime) -> io::Result<()> {
 fn listed(file: &mut [u8; 179], reads: u8, writes: u8) -> usize
     requires { (reads ≤ 65) × (writes ≤ 17) }
 {
-    let len = 5 + 2 * reads as usize + 2 * writes as usize;
+    let len = 5 + 2 * usize::from(reads) + 2 * usize::from(writes);
     file[1] = reads;
     file[2] = writes;
     file[4] = 1;
@@ -156,6 +157,6 @@ fn ends(rt: HostRuntime) -> io::Result<()> {
         "two bytes of junk and two files end to end, what is in front of the second, what is in front of the first"
     )?;
     read(rt, &TWO)?;
-    read(rt, &TWO[0..23])?;
-    read(rt, &TWO[0..2])
+    read(rt, &TWO[..23])?;
+    read(rt, &TWO[..2])
 }

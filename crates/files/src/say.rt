@@ -1,5 +1,5 @@
 // What a line says: what a call was answered.
-use dayfile::{DayFile, Entry, FileRefusal, unpack};
+use dayfile::{DayFile, Entry, FileRefusal, Pairs};
 use std::io;
 
 /// The file of the write-skew day: one entry, two records.
@@ -39,16 +39,14 @@ pub(crate) fn entries(rt: HostRuntime, input: &[u8]) -> io::Result<()> {
 
 fn entry(rt: HostRuntime, e: &Entry) -> io::Result<()> {
     print!(rt; "  console {}, low mark {}, noted", e.console, e.low)?;
-    numbers(rt, e.reads)?;
+    numbers(rt, e.noted())?;
     print!(rt; ", overwrote")?;
-    numbers(rt, e.writes)?;
+    numbers(rt, e.overwritten())?;
     println!(rt; "")
 }
 
-fn numbers(rt: HostRuntime, bytes: &[u8]) -> io::Result<()> {
-    let mut list = [0u32; 64];
-    let n = unpack(bytes, &mut list);
-    for v in &list[0..n] {
+fn numbers(rt: HostRuntime, versions: Pairs) -> io::Result<()> {
+    for v in versions {
         print!(rt; " {v}")?;
     }
     Ok(())

@@ -67,9 +67,9 @@ pub(crate) fn show(rt: HostRuntime) -> io::Result<()> {
 }
 
 fn starts(rt: HostRuntime) -> io::Result<()> {
-    for s in &STARTS {
-        print!(rt; "start in {} bytes, records {}: ", s.0, s.1)?;
-        match Progress::start(s.0, s.1) {
+    for (room, records) in STARTS {
+        print!(rt; "start in {room} bytes, records {records}: ")?;
+        match Progress::start(room, records) {
             Ok(_) => println!(rt; "ok")?,
             Err(x) => refused(rt, x)?,
         }
@@ -79,13 +79,10 @@ fn starts(rt: HostRuntime) -> io::Result<()> {
 
 // The write-skew day into a buffer of EE.
 fn rooms(rt: HostRuntime) -> io::Result<()> {
-    for r in &ROOMS {
-        print!(rt;
-            "the write-skew day with records {} in {} bytes: ",
-            r.0, r.1
-        )?;
+    for (records, room) in ROOMS {
+        print!(rt; "the write-skew day with records {records} in {room} bytes: ")?;
         let mut buf = [0xEEu8; 24];
-        skew_into(rt, r.0, &mut buf[0..r.1.min(24)])?;
+        skew_into(rt, records, &mut buf[..room.min(24)])?;
     }
     Ok(())
 }
@@ -97,28 +94,27 @@ fn skew_into(rt: HostRuntime, records: u32, buf: &mut [u8]) -> io::Result<()> {
         reads: &[0, 1],
         writes: &[0],
     };
-    let (buf, answer) = write_file(buf, records, &[e]);
+    let answer = write_file(buf, records, &[e]);
     filled(rt, answer, buf)
 }
 
 // One entry in a file of two records.
 fn one(rt: HostRuntime, e: &NewEntry) -> io::Result<()> {
     let mut buf = [0u8; 200];
-    let (_, answer) = write_file(&mut buf, 2, &[*e]);
-    match answer {
+    match write_file(&mut buf, 2, &[*e]) {
         Ok(len) => println!(rt; "ok, {len} bytes"),
         Err(x) => refused(rt, x),
     }
 }
 
 fn heads(rt: HostRuntime) -> io::Result<()> {
-    for h in &HEADS {
-        print!(rt; "write console {}, low mark {}: ", h.0, h.1)?;
+    for (console, low) in HEADS {
+        print!(rt; "write console {console}, low mark {low}: ")?;
         one(
             rt,
             &NewEntry {
-                console: h.0,
-                low: h.1,
+                console,
+                low,
                 reads: &[],
                 writes: &[],
             },
@@ -128,19 +124,16 @@ fn heads(rt: HostRuntime) -> io::Result<()> {
 }
 
 fn lists(rt: HostRuntime) -> io::Result<()> {
-    for l in &LISTS {
-        print!(rt;
-            "write noted {}, overwritten {}, each version {} of 2: ",
-            l.0, l.1, l.2
-        )?;
-        let many = [l.2; 65];
+    for (reads, writes, version) in LISTS {
+        print!(rt; "write noted {reads}, overwritten {writes}, each version {version} of 2: ")?;
+        let many = [version; 65];
         one(
             rt,
             &NewEntry {
                 console: 0,
                 low: 1,
-                reads: &many[0..l.0.min(65)],
-                writes: &many[0..l.1.min(65)],
+                reads: &many[..reads.min(65)],
+                writes: &many[..writes.min(65)],
             },
         )?;
     }
@@ -149,13 +142,12 @@ fn lists(rt: HostRuntime) -> io::Result<()> {
 
 // Two entries: a fault of the second refuses the whole file.
 fn seconds(rt: HostRuntime) -> io::Result<()> {
-    for s in &SECOND {
+    for (low, version, room) in SECOND {
         print!(rt;
-            "write a second entry, low mark {}, version {} of 3, in {} bytes: ",
-            s.0, s.1, s.2
+            "write a second entry, low mark {low}, version {version} of 3, in {room} bytes: "
         )?;
         let mut buf = [0xEEu8; 24];
-        second_into(rt, s.0, s.1, &mut buf[0..s.2.min(24)])?;
+        second_into(rt, low, version, &mut buf[..room.min(24)])?;
     }
     Ok(())
 }
@@ -173,7 +165,7 @@ fn second_into(rt: HostRuntime, low: u32, version: u32, buf: &mut [u8]) -> io::R
         reads: &[version],
         writes: &[],
     };
-    let (buf, answer) = write_file(buf, 2, &[first, second]);
+    let answer = write_file(buf, 2, &[first, second]);
     filled(rt, answer, buf)
 }
 
@@ -225,25 +217,19 @@ fn full_day(rt: HostRuntime) -> io::Result<()> {
         added(rt, &mut file, 0, 4002)?;
         let (buf, len) = file.close().bytes();
         if len <= buf.len() {
-            read(rt, &buf[0..len])?;
+            read(rt, &buf[..len])?;
         }
     }
     Ok(())
 }
 
 // Adds so many entries without versions, and answers how many are taken.
-fn add_empty(file: &mut OpenFile, n: u32) -> u32 {
-    let mut taken = 0u32;
-    for _ in 0..n {
-        let e = NewEntry {
-            console: 0,
-            low: 1,
-            reads: &[],
-            writes: &[],
-        };
-        if let Ok(()) = file.add(&e) {
-            taken = taken.saturating_add(1);
-        }
-    }
-    taken
+fn add_empty(file: &mut OpenFile, n: usize) -> usize {
+    let e = NewEntry {
+        console: 0,
+        low: 1,
+        reads: &[],
+        writes: &[],
+    };
+    (0..n).filter(|_| file.add(&e).is_ok()).count()
 }

@@ -1,34 +1,17 @@
 -- A day file that takes every entry of a day.
-use Rattle.std.proofs.Common.{◌≡◌, ℕ, ◌+◌, ◌-◌, ◌*◌, ◌<◌, ◌≤◌, true, leb, List, [], ◌∷◌, ◌++◌, map, length, get_or, take, drop, sym, refl, ap, ◌∙◌, subst, append_assoc, arith}
-use Rattle.std.proofs.lemmas.List.{at_drop_more, take_more, take-take, length-map}
+use Rattle.std.proofs.Common.{◌≡◌, ℕ, ◌+◌, ◌*◌, ◌<◌, ◌≤◌, true, leb, List, [], ◌∷◌, ◌++◌, map, length, get_or, take, drop, sym, refl, ap, ◌∙◌, subst, arith}
+use Rattle.std.proofs.lemmas.List.{at_drop_more, take_more, length-map}
 use Rattle.std.proofs.lemmas.Bool.{and_parts, and_from, le-leb, le-ltb, cond-true, cond-false}
 use Rattle.store.specs.Refusals.{Answer}
 use Rattle.store.specs.Refusals.Answer.{gives}
 use Rattle.dayfile.specs.Format.{Commit, fits, sound, entry_bytes}
 use Rattle.dayfile.proofs.Walks.{fits_came}
-use Rattle.daywriter.specs.Writing.{Extent, Writer, started, start_of, taking, after, added, settled, add_of}
+use Rattle.daywriter.specs.Writing.{Extent, Writer, started, start_of, after, added}
 use Rattle.daywriter.specs.Files.{and_then, taken_all, check_all}
 use Rattle.daywriter.proofs.Overs.{length_entry}
-use Rattle.daywriter.proofs.Runs.{Filling, taken_to, filling_takes, filling_more}
+use Rattle.daywriter.proofs.Runs.{Filling, taken_to, filling_more}
 use Rattle.certifier.specs.Entries.{Entry}
 use Rattle.filing.specs.Filing.{commit_of, commits_of}
-
--- an entry that is taken is added
-pub add_taken : (w v : Writer) (a : Answer Unit) (x e : Commit) → (a, v) ≡ add_of w x → x ≡ e → taking (length w.bytes) w.extent e ≡ gives tt → v ≡ added w e
-add_taken w v a x e h q t = ap (λ (p : Answer Unit × Writer). p.1) h ∙ (ap (λ (y : Commit). (add_of w y).1) q ∙ ap (λ (z : Answer Unit). settled z w (added w e)) t)
-
--- the front of a list that begins with another
-begins : (xs more : List ℕ) → take (length xs) (xs ++ more) ≡ xs
-begins [] more = refl
-begins (x ∷ xs) more = ap (λ (l : List ℕ). x ∷ l) (begins xs more)
-
-pub front_is : (n : ℕ) (list xs more : List ℕ) → n ≡ length xs → list ≡ xs ++ more → take (n - 0) list ≡ xs
-front_is n list xs more h e = let k : n - 0 ≡ length xs = omega arith in (λ i. take (k i) (e i)) ∙ begins xs more
-
--- a buffer that begins with a file, cut to its length
-pub cut_file : (n len : ℕ) (file more buf old : List ℕ) → n ≡ length file → buf ≡ file ++ more → n ≤ len → take n (take len (buf ++ old)) ≡ file
-cut_file n len file more buf old h e l =
-    take-take n len (buf ++ old) l ∙ ((λ i. take (h i) (e i ++ old)) ∙ (ap (take (length file)) (append_assoc file more old) ∙ begins file (more ++ old)))
 
 -- an entry in range has 165 bytes at most
 entry_small : (n b : ℕ) (e : Commit) → fits n b e ≡ true → length (entry_bytes e) ≤ 165
@@ -68,10 +51,6 @@ module _ {A : Type 0} (f : A → Entry) (xs : List A) where
     turn =
         let P : List Commit → Type 0 = λ l. Filling b r (commits_of (map f (take i xs))) l w in
         subst P (at_drop_more (λ (l : List A). commits_of (map f l)) xs i d h ∙ ap (λ (x : A). commit_of (f x) ∷ commits_of (map f (drop (i + 1) xs))) (sym is)) inv
-
-    -- the next is taken
-    pub turn_takes : taking (length w.bytes) w.extent (commit_of (f a)) ≡ gives tt
-    turn_takes = filling_takes b r (commits_of (map f (take i xs))) (commits_of (map f (drop (i + 1) xs))) w (commit_of (f a)) turn
 
     -- and the file goes on
     pub turn_more : (v : Writer) → v ≡ added w (commit_of (f a)) → Filling b r (commits_of (map f (take (i + 1) xs))) (commits_of (map f (drop (i + 1) xs))) v

@@ -1,3 +1,4 @@
 pub mod Filing
 pub mod Days
+pub mod Appending
 pub mod Showing

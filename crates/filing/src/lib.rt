@@ -9,10 +9,12 @@ use std::alloc::Global;
 use store::{OpenFault, Store};
 
 mod day;
+mod numbers;
 mod show;
 mod write;
 
 pub use crate::day::{Day, DayRun};
+pub use crate::numbers::print_numbers;
 pub use crate::show::show_file;
 pub use crate::write::write_day;
 
@@ -32,7 +34,9 @@ pub fn run_day<S: Store<E>, E: Copy>(
         answers,
         entries,
     } = run::<S, E>(heap, size, room, first, calls)?;
-    let records = size;
-    let day = Day { records, entries };
+    let day = Day {
+        records: size,
+        entries,
+    };
     Ok(DayRun { log, answers, day })
 }

@@ -26,7 +26,7 @@ fn add_entry(file: &mut OpenFile, entry: &DayEntry)
     let count = entry.track.overwritten(&mut list);
     let added = NewEntry {
         console: entry.console,
-        low: entry.low as u32,
+        low: u32::from(entry.low),
         reads: entry.track.noted(),
         writes: &list[0..count],
     };
@@ -34,16 +34,18 @@ fn add_entry(file: &mut OpenFile, entry: &DayEntry)
 }
 
 // Writes the file of a day to the front of a buffer that has room for it, and answers how many bytes it has.
+// Kept: the buffer comes back beside the length. In one function with the loop, of `buf.new` only its length is known at the return.
 fn fill_day<'a>(buf: &'a mut [u8], day: &Day) -> (&'a mut [u8], usize)
     requires { 165 * vec_len day.now.entries + 10 ≤ length buf.old }
-    ensures bytes { (result.0.now ≡ over buf.old 0 (file_bytes (records_of day.now) (commits_of (entries_of day.now)))) × (result.1 ≡ length (file_bytes (records_of day.now) (commits_of (entries_of day.now)))) }
+    ensures bytes { result.0.now ≡ over buf.old 0 (file_bytes (records_of day.now) (commits_of (entries_of day.now))) }
+    ensures len { result.1 ≡ length (file_bytes (records_of day.now) (commits_of (entries_of day.now))) }
     ensures lent { result.0.ghost_name ≡ buf.entry.ghost_name }
 {
     let Ok(progress) = Progress::start(buf.len(), day.records) else {
         unreachable()
     };
     let mut file = progress.open(buf);
-    for kept in day.entries.as_slice() {
+    for kept in &day.entries {
         add_entry(&mut file, kept);
     }
     file.close().bytes()
@@ -52,7 +54,8 @@ fn fill_day<'a>(buf: &'a mut [u8], day: &Day) -> (&'a mut [u8], usize)
 // The same, into a buffer that the caller keeps.
 fn put_day(buf: &mut [u8], day: &Day) -> usize
     requires { 165 * vec_len day.now.entries + 10 ≤ length buf.old }
-    ensures bytes { (buf.new ≡ over buf.old 0 (file_bytes (records_of day.now) (commits_of (entries_of day.now)))) × (result ≡ length (file_bytes (records_of day.now) (commits_of (entries_of day.now)))) }
+    ensures bytes { buf.new ≡ over buf.old 0 (file_bytes (records_of day.now) (commits_of (entries_of day.now))) }
+    ensures len { result ≡ length (file_bytes (records_of day.now) (commits_of (entries_of day.now))) }
 {
     let (_, len) = fill_day(buf, day);
     len

@@ -1,7 +1,8 @@
 -- One more accepted read or write of an open transaction: what its track, its pending entries and its history have in common.
-use Rattle.std.proofs.Common.{◌≡◌, ℕ, ◌<◌, ◌≤◌, Bool, true, false, cond, not, ◌||◌, leb, List, [], ◌∷◌, ◌++◌, length, Some, None, Option, sym, refl, ap, ◌∙◌, subst, arith}
-use Rattle.std.proofs.lemmas.List.{map_push, length_push}
-use Rattle.std.proofs.lemmas.Bool.{cond_both, cond-true, cond-false, both_ways, leb-false, not-true}
+use Rattle.std.proofs.Common.{◌≡◌, ℕ, ◌<◌, ◌≤◌, true, false, cond, not, ◌||◌, leb, List, [], ◌∷◌, ◌++◌, length, Some, None, Option, sym, refl, ap, ◌∙◌, subst, arith}
+use Rattle.std.proofs.lemmas.Grind.{common_steps}
+use Rattle.std.proofs.lemmas.List.{length_push}
+use Rattle.std.proofs.lemmas.Bool.{cond_both, leb-false}
 use Rattle.store.specs.declared.Version.{Version}
 use Rattle.store.specs.declared.Pending.{Pending}
 use Rattle.store.specs.Meaning.{own_at, replaced}
@@ -15,11 +16,7 @@ use Rattle.runs.proofs.Rows.{records_of}
 
 -- one more version noted is the 64th at most
 note_few : (n : ℕ) (xs : List ℕ) → length xs ≤ 64 → (member n xs || not (leb 64 (length xs))) ≡ true → length (note_in n xs) ≤ 64
-note_few n xs l = go (member n xs)
-  where
-    go : (b : Bool) → (b || not (leb 64 (length xs))) ≡ true → length (cond b xs (xs ++ (n ∷ []))) ≤ 64
-    go true e = l
-    go false e = omega (arith, length_push xs n, leb-false 64 (length xs) (not-true (leb 64 (length xs)) e))
+note_few n xs l e = grind (arith, common_steps)
 
 module _ {E : Type 0} where
   -- an open transaction after ts, as the store, the history and the certifier have it
@@ -82,25 +79,11 @@ module _ {E : Type 0} where
       abbrev writes : List Over
       writes = cond (member r (records_of t.writes)) t.writes (t.writes ++ (record { at = r; version = n } ∷ []))
 
-      not_held : (b : Bool) → (b ≡ true → ⊥) → b ≡ false
-      not_held true k = absurd (k refl)
-      not_held false k = refl
-
       abbrev Both : List Over → Type 0
       Both ws = (records_of ws ≡ note_in r (records_of t.writes)) × (overs_of ws ≡ note_in n (overs_of t.writes))
 
       both : Both writes
-      both =
-          cond_both (member r (records_of t.writes)) t.writes (t.writes ++ (record { at = r; version = n } ∷ [])) Both
-          (λ a. (
-            sym (cond-true (member r (records_of t.writes)) _ _ a),
-            sym (cond-true (member n (overs_of t.writes)) _ _ (ap (member n) w.overwritten ∙ again (sym (ap (member r) w.records) ∙ a))),
-          ))
-          (λ a.
-          let free : member n (overs_of t.writes) ≡ false = not_held _ (λ k. both_ways (member r (records_of t.writes)) a (ap (member r) w.records ∙ anew (sym (ap (member n) w.overwritten) ∙ k))) in (
-            map_push (λ (x : Over). x.at) t.writes (record { at = r; version = n }) ∙ sym (cond-false (member r (records_of t.writes)) _ _ a),
-            map_push (λ (x : Over). x.version) t.writes (record { at = r; version = n }) ∙ sym (cond-false (member n (overs_of t.writes)) _ _ free),
-          ))
+      both = grind (arith, common_steps)
 
       pub write_row : Row first size ts (replaced ps r e) (acts ++ (put r e n ∷ [])) (record { noted = t.noted; writes = writes })
       write_row = record {

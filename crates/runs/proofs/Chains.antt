@@ -1,7 +1,8 @@
 -- The chains of versions that a history makes: their numbers and makers, and what a transaction read and overwrote of them.
 use Rattle.std.proofs.Common.{◌≡◌, ℕ, zero, suc, ◌+◌, ◌-◌, ◌<◌, ◌≤◌, Bool, true, false, cond, ◌||◌, eqb, ltb, leb, ◌⊎◌, List, [], ◌∷◌, ◌++◌, map, length, get_or, Some, None, Option, sym, refl, ap, ◌∙◌, subst, inl, inr, arith}
-use Rattle.std.proofs.lemmas.Bool.{eqb-true, eqb-false, eq-eqb, le-leb, lt-ltb, and_from, or_cases, or_parts, or_left, or_right, both_ways, cond_both, cases_Bool}
-use Rattle.std.proofs.lemmas.List.{append-nil, length-append, length-map, length_push, get_or_push}
+use Rattle.std.proofs.lemmas.Bool.{eqb-true, eqb-false, le-leb, lt-ltb, and_from, or_parts, both_ways, cond_both, cases_Bool}
+use Rattle.std.proofs.lemmas.Grind.{common_steps}
+use Rattle.std.proofs.lemmas.List.{append-nil, length-map}
 use Rattle.store.specs.declared.Version.{Version}
 use Rattle.store.specs.declared.Pending.{Pending}
 use Rattle.store.specs.Meaning.{own_at, holds, replaced, origin}
@@ -32,41 +33,17 @@ has_get_d (x ∷ xs) zero d l = inl refl
 has_get_d (x ∷ xs) (suc i) d l = inr (has_get_d xs i d (omega arith))
 
 pub none≢some : {A : Type 0} (o : Option A) (a : A) → o ≡ None → o ≡ Some a → ⊥
-none≢some o a p q = let z : ◌≡◌ {A = ℕ} 0 1 = cc in omega arith
+none≢some o a p q = cc
 
 pub not_true_false : (b : Bool) → (b ≡ true → ⊥) → b ≡ false
-not_true_false true n = absurd (n refl)
-not_true_false false n = refl
-
-cond_ap : {A B : Type 0} (f : A → B) (b : Bool) (x y : A) → f (cond b x y) ≡ cond b (f x) (f y)
-cond_ap f true x y = refl
-cond_ap f false x y = refl
+not_true_false b n = grind (arith, common_steps)
 
 -- numbers noted each once
-member_push : (v n : ℕ) (xs : List ℕ) → member v (xs ++ (n ∷ [])) ≡ true → (v ≡ n) ⊎ (member v xs ≡ true)
-member_push v n [] e = elim (or_cases (eqb n v) false e) [ inl a ↦ inl (sym (eqb-true n v a)) | inr b ↦ absurd (both_ways false refl b) ]
-member_push v n (x ∷ xs) e = elim (or_cases (eqb x v) (member v (xs ++ (n ∷ []))) e) [
-  | inl a ↦ inr (or_left (eqb x v) (member v xs) a)
-  | inr b ↦ elim (member_push v n xs b) [ inl c ↦ inl c | inr c ↦ inr (or_right (eqb x v) (member v xs) c) ]
-]
-
-push_member : (v n : ℕ) (xs : List ℕ) → (v ≡ n) ⊎ (member v xs ≡ true) → member v (xs ++ (n ∷ [])) ≡ true
-push_member v n [] (inl e) = or_left (eqb n v) false (eq-eqb n v (sym e))
-push_member v n [] (inr h) = absurd (both_ways false refl h)
-push_member v n (x ∷ xs) (inl e) = or_right (eqb x v) (member v (xs ++ (n ∷ []))) (push_member v n xs (inl e))
-push_member v n (x ∷ xs) (inr h) = elim (or_cases (eqb x v) (member v xs) h) [
-  | inl a ↦ or_left (eqb x v) (member v (xs ++ (n ∷ []))) a
-  | inr b ↦ or_right (eqb x v) (member v (xs ++ (n ∷ []))) (push_member v n xs (inr b))
-]
-
 pub member_note : (v n : ℕ) (xs : List ℕ) → member v (note_in n xs) ≡ true → (v ≡ n) ⊎ (member v xs ≡ true)
-member_note v n xs =
-    cond_both (member n xs) xs (xs ++ (n ∷ [])) (λ l. member v l ≡ true → (v ≡ n) ⊎ (member v xs ≡ true)) (λ _ e. inr e) (λ _ e. member_push v n xs e)
+member_note v n xs e = grind (arith, common_steps)
 
 pub note_member : (v n : ℕ) (xs : List ℕ) → (v ≡ n) ⊎ (member v xs ≡ true) → member v (note_in n xs) ≡ true
-note_member v n xs = cond_both (member n xs) xs (xs ++ (n ∷ [])) (λ l. (v ≡ n) ⊎ (member v xs ≡ true) → member v l ≡ true)
-    (λ k h. elim h [ inl e ↦ subst (λ m. member m xs ≡ true) (sym e) k | inr m ↦ m ])
-    (λ _ h. push_member v n xs h)
+note_member v n xs h = grind (arith, common_steps)
 
 module _ {E : Type 0} (f : Act E → Option ℕ) where
   -- what is gathered of acts
@@ -114,19 +91,9 @@ module _ {E : Type 0} where
   not_held [] r h = refl
   not_held (p ∷ ps) r h = let q = or_parts (eqb p.at r) (holds ps r) h in rw q.0 (not_held ps r q.1)
 
-  pub own_held : (ps : List (Pending E)) (r : ℕ) (e : E) → own_at ps r ≡ Some e → holds ps r ≡ true
-  own_held ps r e h = elim (cases_Bool (holds ps r)) [ inl k ↦ k | inr k ↦ absurd (none≢some (own_at ps r) e (not_held ps r k) h) ]
-
   pub held_replaced : (ps : List (Pending E)) (r q : ℕ) (e : E) → holds (replaced ps r e) q ≡ true → (r ≡ q) ⊎ (holds ps q ≡ true)
-  held_replaced [] r q e h = elim (or_cases (eqb r q) false h) [ inl k ↦ inl (eqb-true r q k) | inr k ↦ inr k ]
-  held_replaced (p ∷ ps) r q e h = go (held_replaced ps r q e) (eqb p.at r) h
-    where
-      go : (holds (replaced ps r e) q ≡ true → (r ≡ q) ⊎ (holds ps q ≡ true)) → (b : Bool) → holds (cond b (record { at = r; entry = e } ∷ ps) (p ∷ replaced ps r e)) q ≡ true → (r ≡ q) ⊎ ((eqb p.at q || holds ps q) ≡ true)
-      go ih true k = elim (or_cases (eqb r q) (holds ps q) k) [ inl a ↦ inl (eqb-true r q a) | inr a ↦ inr (or_right (eqb p.at q) (holds ps q) a) ]
-      go ih false k = elim (or_cases (eqb p.at q) (holds (replaced ps r e) q) k) [
-        | inl a ↦ inr (or_left (eqb p.at q) (holds ps q) a)
-        | inr a ↦ elim (ih a) [ inl s ↦ inl s | inr s ↦ inr (or_right (eqb p.at q) (holds ps q) s) ]
-      ]
+  held_replaced [] r q e h = grind (arith, common_steps)
+  held_replaced (p ∷ ps) r q e h = grind (arith, common_steps, held_replaced ps r q e)
 
   unique_replaced : (ps : List (Pending E)) (r : ℕ) (e : E) → Unique ps → Unique (replaced ps r e)
   unique_replaced [] r e u = (refl, tt)
@@ -158,14 +125,7 @@ module _ {E : Type 0} where
 
   pub records_replaced : (ps : List (Pending E)) (r : ℕ) (e : E) → records_of (replaced ps r e) ≡ note_in r (records_of ps)
   records_replaced [] r e = refl
-  records_replaced (p ∷ ps) r e = go (records_replaced ps r e) (eqb p.at r) refl
-    where
-      go : records_of (replaced ps r e) ≡ note_in r (records_of ps) → (b : Bool) → eqb p.at r ≡ b → records_of (cond b (record { at = r; entry = e } ∷ ps) (p ∷ replaced ps r e))
-          ≡ cond (b || member r (records_of ps)) (p.at ∷ records_of ps) (p.at ∷ (records_of ps ++ (r ∷ [])))
-      go ih true k = ap (λ n. n ∷ records_of ps) (sym (eqb-true p.at r k))
-      go ih false k =
-          ap (λ (ns : List ℕ). p.at ∷ ns) ih
-          ∙ cond_ap (λ (ns : List ℕ). p.at ∷ ns) (member r (records_of ps)) (records_of ps) (records_of ps ++ (r ∷ []))
+  records_replaced (p ∷ ps) r e = grind (arith, common_steps, records_replaced ps r e)
 
   records_after : (ps : List (Pending E)) (acts : List (Act E)) → gather written_by (records_of ps) acts ≡ records_of (pending_after ps acts)
   records_after ps [] = refl
@@ -183,23 +143,9 @@ module _ {E : Type 0} where
   pub member_holds : (acts : List (Act E)) (r : ℕ) → member r (records_in acts) ≡ holds (pending_after [] acts) r
   member_holds acts r = ap (member r) (records_are acts) ∙ member_records (pending_after [] acts) r
 
-  place_under : (ps : List (Pending E)) (r : ℕ) → holds ps r ≡ true → place_in ps r < length ps
-  place_under [] r h = absurd (both_ways false refl h)
-  place_under (p ∷ ps) r h = go (place_under ps r) (eqb p.at r) h
-    where
-      go : (holds ps r ≡ true → place_in ps r < length ps) → (b : Bool) → (b || holds ps r) ≡ true → cond b 0 (suc (place_in ps r)) < suc (length ps)
-      go ih true k = omega arith
-      go ih false k = omega (arith, ih k)
-
   place_apart : (ps : List (Pending E)) (r q : ℕ) → holds ps r ≡ true → holds ps q ≡ true → place_in ps r ≡ place_in ps q → r ≡ q
   place_apart [] r q a b e = absurd (both_ways false refl a)
-  place_apart (p ∷ ps) r q a b e = go (place_apart ps r q) (eqb p.at r) (eqb p.at q) refl refl a b e
-    where
-      go : (holds ps r ≡ true → holds ps q ≡ true → place_in ps r ≡ place_in ps q → r ≡ q) → (m n : Bool) → eqb p.at r ≡ m → eqb p.at q ≡ n → (m || holds ps r) ≡ true → (n || holds ps q) ≡ true → cond m 0 (suc (place_in ps r)) ≡ cond n 0 (suc (place_in ps q)) → r ≡ q
-      go ih true true i j a b e = sym (eqb-true p.at r i) ∙ eqb-true p.at q j
-      go ih true false i j a b e = absurd (omega arith)
-      go ih false true i j a b e = absurd (omega arith)
-      go ih false false i j a b e = ih a b (omega arith)
+  place_apart (p ∷ ps) r q a b e = grind (arith, common_steps, place_apart ps r q)
 
   -- the versions that pending entries become
   pub added_none : (c n : ℕ) (ps : List (Pending E)) (r : ℕ) → holds ps r ≡ false → added_by c n ps r ≡ []
@@ -250,24 +196,24 @@ module _ {E : Type 0} where
   read_act_lem t n h = elim (gathered read_by t.acts n [] h) [ inl k ↦ absurd (both_ways false refl k) | inr w ↦ go w.0 w.1 w.2 ]
     where
       go : (a : Act E) → Has a t.acts → read_by a ≡ Some n → (r : ℕ) × (v : Version E) × Has (took_version r v) t.acts × (v.number ≡ n)
-      go (took_own r e) k q = let z : ◌≡◌ {A = ℕ} 0 1 = cc in absurd (omega arith)
+      go (took_own r e) k q = absurd (cc)
       go (took_version r v) k q = (r, v, k, cc)
-      go (put r e m) k q = let z : ◌≡◌ {A = ℕ} 0 1 = cc in absurd (omega arith)
+      go (put r e m) k q = absurd (cc)
 
   pub overwrite_act : (t : Transaction E) (n : ℕ) → HasOverwritten t n → (r : ℕ) × (e : E) × Has (put r e n) t.acts
   overwrite_act t n h = elim (gathered overwritten_by t.acts n [] h) [ inl k ↦ absurd (both_ways false refl k) | inr w ↦ go w.0 w.1 w.2 ]
     where
       go : (a : Act E) → Has a t.acts → overwritten_by a ≡ Some n → (r : ℕ) × (e : E) × Has (put r e n) t.acts
-      go (took_own r e) k q = let z : ◌≡◌ {A = ℕ} 0 1 = cc in absurd (omega arith)
-      go (took_version r v) k q = let z : ◌≡◌ {A = ℕ} 0 1 = cc in absurd (omega arith)
+      go (took_own r e) k q = absurd (cc)
+      go (took_version r v) k q = absurd (cc)
       go (put r e m) k q = let s : m ≡ n = cc in (r, e, subst (λ x. Has (put r e x) t.acts) s k)
 
   pub write_act_lem : (t : Transaction E) (r : ℕ) → Wrote t r → (e : E) × (n : ℕ) × Has (put r e n) t.acts
   write_act_lem t r h = elim (gathered written_by t.acts r [] (member_holds t.acts r ∙ h)) [ inl k ↦ absurd (both_ways false refl k) | inr w ↦ go w.0 w.1 w.2 ]
     where
       go : (a : Act E) → Has a t.acts → written_by a ≡ Some r → (e : E) × (n : ℕ) × Has (put r e n) t.acts
-      go (took_own q e) k s = let z : ◌≡◌ {A = ℕ} 0 1 = cc in absurd (omega arith)
-      go (took_version q v) k s = let z : ◌≡◌ {A = ℕ} 0 1 = cc in absurd (omega arith)
+      go (took_own q e) k s = absurd (cc)
+      go (took_version q v) k s = absurd (cc)
       go (put q e n) k s = let z : q ≡ r = cc in (e, n, subst (λ x. Has (put x e n) t.acts) z k)
 
   pub act_reads : (t : Transaction E) (r : ℕ) (v : Version E) → Has (took_version r v) t.acts → HasRead t v.number
@@ -325,7 +271,7 @@ module _ {E : Type 0} where
     pub entry : own_at (pending_of maker) r ≡ Some v.entry
 
   later_maker : (t : Transaction E) (ts : List (Transaction E)) (r : ℕ) (v : Version E) → Maker ts r v → Maker (t ∷ ts) r v
-  later_maker t ts r v m = record { maker = m.maker; here = inr m.here; wrote = m.wrote; stamp = m.stamp; made = m.made; entry = m.entry }
+  later_maker t ts r v m = grind (arith, common_steps)
 
   added_maker : (t : Transaction E) (ts : List (Transaction E)) (r : ℕ) → Wrote t r → (a : AddsTo t r) → Maker (t ∷ ts) r a.version
   added_maker t ts r w a = record { maker = t; here = inl refl; wrote = w; stamp = sym a.stamp; made = adds_made t r a; entry = a.entry }
@@ -340,8 +286,7 @@ module _ {E : Type 0} where
 
   pub chain_some : (first : E) (ts : List (Transaction E)) (r : ℕ) → 0 < length (chain_of first ts r)
   chain_some first [] r = omega arith
-  chain_some first (t ∷ ts) r =
-      omega (arith, chain_some first ts r, length-append (chain_of first ts r) (added_by t.grant.stamp t.first (pending_of t) r))
+  chain_some first (t ∷ ts) r = grind (arith, common_steps, chain_some first ts r)
 
   -- the newest version of record r
   abbrev pub newest_in : E → List (Transaction E) → ℕ → Version E
@@ -350,21 +295,16 @@ module _ {E : Type 0} where
   pub newest_has : (first : E) (ts : List (Transaction E)) (r : ℕ) → Has (newest_in first ts r) (chain_of first ts r)
   newest_has first ts r = has_get_d (chain_of first ts r) (length (chain_of first ts r) - 1) (origin first) (omega (arith, chain_some first ts r))
 
-  pub newest_push : (first : E) (vs : List (Version E)) (v : Version E) → newest_of first (vs ++ (v ∷ [])) ≡ v
-  newest_push first vs v =
-      let e : length vs ≡ length (vs ++ (v ∷ [])) - 1 = omega (arith, length_push vs v) in get_or_push vs v (origin first) (length (vs ++ (v ∷ [])) - 1) e
-
   newest_new : (first : E) (t : Transaction E) (ts : List (Transaction E)) (r : ℕ) (a : AddsTo t r)
       → chain_of first (t ∷ ts) r ≡ chain_of first ts r ++ (a.version ∷ []) → newest_in first (t ∷ ts) r ≡ a.version
-  newest_new first t ts r a e = ap (newest_of first) e ∙ newest_push first (chain_of first ts r) a.version
+  newest_new first t ts r a e = grind (arith, common_steps)
 
 module _ {E : Type 0} (first : E) (size : ℕ) where
   -- what is true of the acts of a transaction after ts
   pub valid_read : (ts : List (Transaction E)) (ps : List (Pending E)) (acts : List (Act E)) → Valid first size ts ps acts
       → (r : ℕ) (v : Version E) → Has (took_version r v) acts → (r < size) × Has v (chain_of first ts r)
   valid_read ts ps [] k r v h = elim h [ ]
-  valid_read ts ps (a ∷ rest) k r v (inl e) =
-      let c : Valid first size ts ps (took_version r v ∷ rest) = subst (λ (x : Act E). Valid first size ts ps (x ∷ rest)) (sym e) k in (c.0, c.2)
+  valid_read ts ps (a ∷ rest) k r v (inl e) = grind (arith, common_steps)
   valid_read ts ps (took_own q e ∷ rest) k r v (inr h) = valid_read ts ps rest k.2 r v h
   valid_read ts ps (took_version q w ∷ rest) k r v (inr h) = valid_read ts ps rest k.3 r v h
   valid_read ts ps (put q e n ∷ rest) k r v (inr h) = valid_read ts (replaced ps q e) rest k.2 r v h
@@ -372,8 +312,7 @@ module _ {E : Type 0} (first : E) (size : ℕ) where
   pub valid_put : (ts : List (Transaction E)) (ps : List (Pending E)) (acts : List (Act E)) → Valid first size ts ps acts
       → (r : ℕ) (e : E) (n : ℕ) → Has (put r e n) acts → (r < size) × (n ≡ (newest_in first ts r).number)
   valid_put ts ps [] k r e n h = elim h [ ]
-  valid_put ts ps (a ∷ rest) k r e n (inl q) =
-      let c : Valid first size ts ps (put r e n ∷ rest) = subst (λ (x : Act E). Valid first size ts ps (x ∷ rest)) (sym q) k in (c.0, c.1)
+  valid_put ts ps (a ∷ rest) k r e n (inl q) = grind (arith, common_steps)
   valid_put ts ps (took_own q x ∷ rest) k r e n (inr h) = valid_put ts ps rest k.2 r e n h
   valid_put ts ps (took_version q w ∷ rest) k r e n (inr h) = valid_put ts ps rest k.3 r e n h
   valid_put ts ps (put q x m ∷ rest) k r e n (inr h) = valid_put ts (replaced ps q x) rest k.2 r e n h
@@ -381,7 +320,7 @@ module _ {E : Type 0} (first : E) (size : ℕ) where
   -- commit stamps are from 1 to the number of commits
   pub stamped : (ts : List (Transaction E)) → Good first size ts → (u : Transaction E) → Has u ts → (0 < u.grant.stamp) × (u.grant.stamp ≤ length ts)
   stamped [] g u h = elim h [ ]
-  stamped (t ∷ ts) g u (inl e) = let s = commit_stamp g.0 in let q = stamp_same e in (omega arith, omega arith)
+  stamped (t ∷ ts) g u (inl e) = grind (arith, common_steps)
   stamped (t ∷ ts) g u (inr h) = let s = stamped ts g.1 u h in (s.0, omega arith)
 
   -- a stamp names its transaction
@@ -409,7 +348,7 @@ module _ {E : Type 0} (first : E) (size : ℕ) where
 
   pub same_number : (ts : List (Transaction E)) → Good first size ts → (r q : ℕ) (v w : Version E) → r < size → q < size
       → Has v (chain_of first ts r) → Has w (chain_of first ts q) → v.number ≡ w.number → r ≡ q
-  same_number [] g r q v w l m (inl a) (inl b) e = omega (arith, ap (λ (x : Version E). x.number) a, ap (λ (x : Version E). x.number) b)
+  same_number [] g r q v w l m (inl a) (inl b) e = grind (arith, common_steps)
   same_number [] g r q v w l m (inl a) (inr h) e = elim h [ ]
   same_number [] g r q v w l m (inr h) b e = elim h [ ]
   same_number (t ∷ ts) g r q v w l m h k e = elim (old_or_new first t ts r v h) [

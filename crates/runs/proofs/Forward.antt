@@ -1,8 +1,9 @@
 -- Rank over a history in which each transaction fits those before it: dependencies lead forward, and rank is a total order.
-use Rattle.std.proofs.Common.{◌≡◌, ℕ, zero, suc, ◌+◌, ◌<◌, ◌≤◌, min, max, Bool, true, false, cond, ◌&&◌, eqb, ltb, leb, ◌⊎◌, List, [], ◌∷◌, length, get_or, Some, None, Option, sym, refl, ap, ◌∙◌, subst, inl, inr, arith}
-use Rattle.std.proofs.lemmas.Bool.{eqb-true, eqb-false, ltb-true, ltb-false, leb-true, and_parts, and_cases, or_cases, or_parts, both_ways, cond-true, cond_both, cases_lt, cases_eq, cases_order}
+use Rattle.std.proofs.lemmas.Grind.{common_steps}
+use Rattle.std.proofs.Common.{◌≡◌, ℕ, zero, suc, ◌+◌, ◌<◌, ◌≤◌, max, Bool, true, false, cond, eqb, ◌⊎◌, List, [], ◌∷◌, length, get_or, Some, None, Option, sym, refl, ap, ◌∙◌, subst, inl, inr, arith}
+use Rattle.std.proofs.lemmas.Bool.{eqb-true, or_cases, both_ways, cond_both, cases_eq}
 use Rattle.certifier.specs.Marking.{member, low_or}
-use Rattle.runs.specs.History.{Transaction, HasRead, HasOverwritten, HasMade, made_by, DependsBy, Before, is_before, inserted, in_rank, stamp_of, read_stamp, high_of, low_of, lowest_of, greatest_stamp_of, greatest_high_of, read_in, overwritten_in, records_in}
+use Rattle.runs.specs.History.{Transaction, HasRead, HasOverwritten, HasMade, made_by, DependsBy, Before, is_before, inserted, in_rank, stamp_of, read_stamp, high_of, low_of, lowest_of, greatest_stamp_of, greatest_high_of, read_in, overwritten_in}
 use Rattle.runs.specs.Law.{Has, Depends, Sorted, Leads}
 use Rattle.runs.specs.Law.Leads.{one, more}
 use Rattle.runs.proofs.Goods.{next_of, Good}
@@ -13,13 +14,13 @@ low_or_le m None = omega arith
 low_or_le m (Some n) = omega arith
 
 low_or_present : (m n : ℕ) (o : Option ℕ) → o ≡ Some n → low_or m o ≤ n
-low_or_present m n o e = let f : low_or m o ≡ min m n = ap (low_or m) e in omega arith
+low_or_present m n o e = grind (arith, common_steps)
 
 module _ {E : Type 0} where
   -- the marks of a commit bound those of the versions that it read and overwrote
   lowest_le : (ts : List (Transaction E)) (c : ℕ) (ns : List ℕ) → lowest_of ts c ns ≤ c
   lowest_le ts c [] = omega arith
-  lowest_le ts c (n ∷ ns) = omega (arith, low_or_le (lowest_of ts c ns) (low_of ts n), lowest_le ts c ns)
+  lowest_le ts c (n ∷ ns) = grind (arith, common_steps, lowest_le ts c ns)
 
   lowest_present : (ts : List (Transaction E)) (c : ℕ) (ns : List ℕ) (v l : ℕ) → member v ns ≡ true → low_of ts v ≡ Some l → lowest_of ts c ns ≤ l
   lowest_present ts c [] v l m e = absurd (both_ways false refl m)
@@ -45,16 +46,15 @@ module _ {E : Type 0} where
   -- a version's high mark is at least the stamp of each that read it
   stamp_read : (ts : List (Transaction E)) (u : Transaction E) (v : ℕ) → Has u ts → HasRead u v → u.grant.stamp ≤ read_stamp ts v
   stamp_read [] u v h m = elim h [ ]
-  stamp_read (t ∷ ts) u v (inl e) m =
-      omega (arith, cond-true (member v (read_in t.acts)) t.grant.stamp 0 (subst (λ (x : Transaction E). HasRead x v) e m), stamp_same e)
+  stamp_read (t ∷ ts) u v (inl e) m = grind (arith, common_steps)
   stamp_read (t ∷ ts) u v (inr h) m = omega (arith, stamp_read ts u v h m)
 
   made_from : (t : Transaction E) (v : ℕ) → HasMade t v → t.first ≤ v
-  made_from t v m = leb-true t.first v (and_parts (leb t.first v) (ltb v (t.first + length (records_in t.acts))) m).0
+  made_from t v m = grind (arith, common_steps)
 
   -- rank is a strict order
   by_low_lem : (u t : Transaction E) → u.grant.low ≤ t.grant.low → t.grant.stamp < u.grant.stamp → Before u t
-  by_low_lem u t l s = elim (cases_lt u.grant.low t.grant.low) [ inl a ↦ inl a | inr b ↦ inr (omega arith, s) ]
+  by_low_lem u t l s = grind (arith, common_steps)
 
   pub before_trans : (a b c : Transaction E) → Before a b → Before b c → Before a c
   before_trans a b c (inl p) (inl q) = inl (omega arith)
@@ -69,47 +69,22 @@ module _ {E : Type 0} where
   before_asym a b p q = omega arith
 
   before_either : (u t : Transaction E) → (u.grant.stamp ≡ t.grant.stamp → ⊥) → Before u t ⊎ Before t u
-  before_either u t n = elim (cases_order u.grant.low t.grant.low) [
-    | inl e ↦ elim (cases_lt t.grant.stamp u.grant.stamp) [ inl s ↦ inl (inr (e, s)) | inr s ↦ inr (inr (sym e, omega arith)) ]
-    | inr o ↦ elim o [ inl a ↦ inl (inl a) | inr b ↦ inr (inl b) ]
-  ]
+  before_either u t n = grind (arith, common_steps)
 
   is_before_lem : (u t : Transaction E) → is_before u t ≡ true → Before u t
-  is_before_lem u t e = elim (or_cases (ltb u.grant.low t.grant.low) (eqb u.grant.low t.grant.low && ltb t.grant.stamp u.grant.stamp) e) [
-    | inl l ↦ inl (ltb-true u.grant.low t.grant.low l)
-    | inr k ↦
-        let p = and_parts (eqb u.grant.low t.grant.low) (ltb t.grant.stamp u.grant.stamp) k in
-        inr (eqb-true u.grant.low t.grant.low p.0, ltb-true t.grant.stamp u.grant.stamp p.1)
-  ]
+  is_before_lem u t e = grind (arith, common_steps)
 
   not_before : (u t : Transaction E) → is_before u t ≡ false → Before u t → ⊥
-  not_before u t e b =
-      let p = or_parts (ltb u.grant.low t.grant.low) (eqb u.grant.low t.grant.low && ltb t.grant.stamp u.grant.stamp) e in
-      let a : t.grant.low ≤ u.grant.low = ltb-false u.grant.low t.grant.low p.0 in
-      elim (and_cases (eqb u.grant.low t.grant.low) (ltb t.grant.stamp u.grant.stamp) p.1) [
-        | inl k ↦ omega (arith, eqb-false u.grant.low t.grant.low k)
-        | inr k ↦ omega (arith, ltb-false t.grant.stamp u.grant.stamp k)
-      ]
+  not_before u t e b = grind (arith, common_steps)
 
   -- the list by rank has the same transactions
   has_inserted : (u t : Transaction E) (ts : List (Transaction E)) → Has u (inserted t ts) → (u ≡ t) ⊎ Has u ts
   has_inserted u t [] h = h
-  has_inserted u t (w ∷ ws) h = go (has_inserted u t ws) (is_before t w) h
-    where
-      go : (Has u (inserted t ws) → (u ≡ t) ⊎ Has u ws) → (b : Bool) → Has u (cond b (t ∷ w ∷ ws) (w ∷ inserted t ws)) → (u ≡ t) ⊎ Has u (w ∷ ws)
-      go ih true k = k
-      go ih false (inl e) = inr (inl e)
-      go ih false (inr k) = elim (ih k) [ inl e ↦ inl e | inr m ↦ inr (inr m) ]
+  has_inserted u t (w ∷ ws) h = grind (arith, common_steps, has_inserted u t ws)
 
   inserted_has : (u t : Transaction E) (ts : List (Transaction E)) → (u ≡ t) ⊎ Has u ts → Has u (inserted t ts)
   inserted_has u t [] h = h
-  inserted_has u t (w ∷ ws) h = go (inserted_has u t ws) (is_before t w) h
-    where
-      go : ((u ≡ t) ⊎ Has u ws → Has u (inserted t ws)) → (b : Bool) → (u ≡ t) ⊎ Has u (w ∷ ws) → Has u (cond b (t ∷ w ∷ ws) (w ∷ inserted t ws))
-      go ih true k = k
-      go ih false (inl e) = inr (ih (inl e))
-      go ih false (inr (inl e)) = inl e
-      go ih false (inr (inr m)) = inr (ih (inr m))
+  inserted_has u t (w ∷ ws) h = grind (arith, common_steps, inserted_has u t ws)
 
   pub ranked_has : (u : Transaction E) (ts : List (Transaction E)) → Has u (in_rank ts) → Has u ts
   ranked_has u [] h = h
@@ -146,8 +121,7 @@ module _ {E : Type 0} (first : E) (size : ℕ) where
   -- a version's stamp is at least that of each that made it
   stamp_made : (ts : List (Transaction E)) → Good first size ts → (u : Transaction E) (v : ℕ) → Has u ts → HasMade u v → u.grant.stamp ≤ stamp_of ts v
   stamp_made [] g u v h m = elim h [ ]
-  stamp_made (t ∷ ts) g u v (inl e) m =
-      omega (arith, cond-true (made_by t v) t.grant.stamp (stamp_of ts v) (subst (λ (x : Transaction E). HasMade x v) e m), stamp_same e)
+  stamp_made (t ∷ ts) g u v (inl e) m = grind (arith, common_steps)
   stamp_made (t ∷ ts) g u v (inr h) m =
       cond_both (made_by t v) t.grant.stamp (stamp_of ts v) (λ x. u.grant.stamp ≤ x)
       (λ _. omega (arith, stamped first size ts g.1 u h, commit_stamp g.0))
@@ -174,9 +148,7 @@ module _ {E : Type 0} (first : E) (size : ℕ) where
   -- the low mark of an overwritten version is that of the one that overwrote it
   low_overwritten : (ts : List (Transaction E)) → Good first size ts → (u : Transaction E) (v : ℕ) → Has u ts → HasOverwritten u v → low_of ts v ≡ Some u.grant.low
   low_overwritten [] g u v h m = elim h [ ]
-  low_overwritten (t ∷ ts) g u v (inl e) m =
-      cond-true (member v (overwritten_in t.acts)) (Some t.grant.low) (low_of ts v) (subst (λ (x : Transaction E). HasOverwritten x v) e m)
-      ∙ ap (λ (x : Transaction E). Some x.grant.low) (sym e)
+  low_overwritten (t ∷ ts) g u v (inl e) m = grind (arith, common_steps)
   low_overwritten (t ∷ ts) g u v (inr h) m =
       let e : low_of ts v ≡ Some u.grant.low = low_overwritten ts g.1 u v h m in
       cond_both (member v (overwritten_in t.acts)) (Some t.grant.low) (low_of ts v) (λ x. x ≡ Some u.grant.low)

@@ -1,21 +1,21 @@
 -- A granted commit keeps the invariant of runs, and its marks are those of the history.
-use Rattle.std.proofs.Common.{◌≡◌, ℕ, ◌+◌, ◌<◌, ◌≤◌, max, Bool, true, false, cond, ◌||◌, eqb, ◌⊎◌, List, [], ◌∷◌, ◌++◌, length, get_or, set, Some, None, Option, sym, refl, ap, ◌∙◌, subst, ap₂, inl, inr, ⊎_elim, append_assoc, arith}
-use Rattle.std.proofs.lemmas.List.{get_or-set_same, get_or-set_other, length-set, length-map, append-nil}
-use Rattle.std.proofs.lemmas.Bool.{eqb-true, eq-eqb, ne_eqb, or_left, or_right, cond-true, cond-false, cond_both, cases_eq, cases_lt, cases_Bool, and_from, and_left, le-leb, lt-leb, lt-ltb, both_ways}
+use Rattle.std.proofs.lemmas.Grind.{common_steps}
+use Rattle.std.proofs.Common.{◌≡◌, ℕ, ◌+◌, ◌<◌, ◌≤◌, max, Bool, true, false, cond, eqb, ◌⊎◌, List, [], ◌∷◌, ◌++◌, length, get_or, set, Some, None, Option, sym, refl, ap, ◌∙◌, subst, ap₂, inl, inr, ⊎_elim, append_assoc, arith}
+use Rattle.std.proofs.lemmas.List.{get_or-set_same, get_or-set_other, length-set, append-nil}
+use Rattle.std.proofs.lemmas.Bool.{eq-eqb, ne_eqb, or_left, or_right, cond-true, cond-false, cond_both, cases_eq, cases_lt, cases_Bool, both_ways}
 use Rattle.store.specs.declared.Pending.{Pending}
 use Rattle.store.specs.declared.Version.{Version}
 use Rattle.store.specs.Meaning.{Console, holds, replaced, appended, pending_in, versions_in, console_at}
 use Rattle.store.proofs.Lists.{versions_set}
 use Rattle.certifier.specs.declared.Grant.{Grant}
 use Rattle.certifier.specs.declared.Mark.{Mark}
-use Rattle.certifier.specs.declared.Over.{Over}
 use Rattle.certifier.specs.Marking.{Track, overs_of, new_mark, mark_at, member, low_or, verdict_of, marked}
 use Rattle.certifier.specs.Ranking.{ranked}
 use Rattle.certifier.specs.Meaning.{LogState, track_at}
 use Rattle.runs.specs.History.{Act, Transaction, Summary, read_in, overwritten_in, records_in, current_at, made_by, stamp_of, read_stamp, low_of, mark_of, lowest_of, greatest_stamp_of, greatest_high_of, grant_of}
 use Rattle.runs.specs.History.Act.{took_own, took_version, put}
 use Rattle.runs.proofs.Goods.{pending_after, added_by, chain_of, newest_of, next_of, Valid, Fits, Good}
-use Rattle.runs.proofs.Rows.{low_right, stamp_right, high_right, verdict_is, remarked, raise, lower, marked_length, marked_old, marked_new}
+use Rattle.runs.proofs.Rows.{low_right, stamp_right, high_right, verdict_is, remarked, marked_length, marked_old, marked_new}
 use Rattle.runs.proofs.Chains.{has_front, pending_count, added_none, read_act_lem, overwrite_act, valid_read, valid_put, number_under, newest_has, overwritten_below, low_past}
 use Rattle.runs.proofs.Acts.{Row}
 use Rattle.runs.proofs.Ties.{console_holds, Matches, Tied}
@@ -23,14 +23,14 @@ use Rattle.runs.proofs.Ties.{console_holds, Matches, Tied}
 -- a mark before a commit at c, and after it
 mark_old : (a b c l : ℕ) (o : Option ℕ) (rd ow : Bool) → a ≤ c → b ≤ c → (m : Mark) → m ≡ record { stamp = a; high = max a b; low = o }
     → remarked c l rd ow m ≡ record { stamp = a; high = max a (max (cond rd c 0) b); low = cond ow (Some l) o }
-mark_old a b c l o true true p q m e = ap (λ x. lower l (raise c x)) e ∙ (let P : ℕ → Mark = λ x. record { stamp = a; high = x; low = Some l } in ap P (omega arith))
-mark_old a b c l o true false p q m e = ap (λ x. raise c x) e ∙ (let P : ℕ → Mark = λ x. record { stamp = a; high = x; low = o } in ap P (omega arith))
-mark_old a b c l o false true p q m e = ap (λ x. lower l x) e ∙ (let P : ℕ → Mark = λ x. record { stamp = a; high = x; low = Some l } in ap P (omega arith))
-mark_old a b c l o false false p q m e = e ∙ (let P : ℕ → Mark = λ x. record { stamp = a; high = x; low = o } in ap P (omega arith))
+mark_old a b c l o true true p q m e = grind (arith, common_steps)
+mark_old a b c l o true false p q m e = grind (arith, common_steps)
+mark_old a b c l o false true p q m e = grind (arith, common_steps)
+mark_old a b c l o false false p q m e = grind (arith, common_steps)
 
 mark_new : (b c : ℕ) (rd : Bool) → b ≤ c → (o : Option ℕ) → o ≡ None → new_mark c ≡ record { stamp = c; high = max c (max (cond rd c 0) b); low = o }
-mark_new b c true h o e = let P : ℕ → Option ℕ → Mark = λ x y. record { stamp = c; high = x; low = y } in ap₂ P (omega arith) (sym e)
-mark_new b c false h o e = let P : ℕ → Option ℕ → Mark = λ x y. record { stamp = c; high = x; low = y } in ap₂ P (omega arith) (sym e)
+mark_new b c true h o e = grind (arith, common_steps)
+mark_new b c false h o e = grind (arith, common_steps)
 
 module _ {E : Type 0} where
   abbrev as_if : List (Act E) → Transaction E
@@ -39,17 +39,11 @@ module _ {E : Type 0} where
   -- stamps and high marks are at most the number of commits
   stamp_bound : (f : E) (size : ℕ) (ts : List (Transaction E)) → Good f size ts → (v : ℕ) → stamp_of ts v ≤ length ts
   stamp_bound f size [] g v = omega arith
-  stamp_bound f size (t ∷ ts) g v =
-      cond_both (made_by t v) t.grant.stamp (stamp_of ts v) (λ x. x ≤ length (t ∷ ts))
-      (λ _. omega (arith, ap (λ q. q.stamp) g.0.grant))
-      (λ _. omega (arith, stamp_bound f size ts g.1 v))
+  stamp_bound f size (t ∷ ts) g v = grind (arith, common_steps, stamp_bound f size ts g.1 v)
 
   read_bound : (f : E) (size : ℕ) (ts : List (Transaction E)) → Good f size ts → (v : ℕ) → read_stamp ts v ≤ length ts
   read_bound f size [] g v = omega arith
-  read_bound f size (t ∷ ts) g v =
-      let e : t.grant.stamp ≡ length ts + 1 = ap (λ q. q.stamp) g.0.grant in
-      let i : read_stamp ts v ≤ length ts = read_bound f size ts g.1 v in
-      cond_both (member v (read_in t.acts)) t.grant.stamp 0 (λ x. max x (read_stamp ts v) ≤ length (t ∷ ts)) (λ _. omega arith) (λ _. omega arith)
+  read_bound f size (t ∷ ts) g v = grind (arith, common_steps, read_bound f size ts g.1 v)
 
   -- the marks that the certifier takes are those of the history
   module _ (ms : List Mark) (ts : List (Transaction E)) (n : ℕ) (k : (v : ℕ) → v < n → mark_at ms v ≡ mark_of ts v) where
@@ -134,11 +128,7 @@ module _ {E : Type 0} where
 
   under_replaced : (n : ℕ) (ps : List (Pending E)) (r : ℕ) (e : E) → r < n → AllUnder n ps → AllUnder n (replaced ps r e)
   under_replaced n [] r e l u = (l, tt)
-  under_replaced n (p ∷ ps) r e l u = go (eqb p.at r) (under_replaced n ps r e l u.1)
-    where
-      go : (b : Bool) → AllUnder n (replaced ps r e) → AllUnder n (cond b (record { at = r; entry = e } ∷ ps) (p ∷ replaced ps r e))
-      go true rest = (l, u.1)
-      go false rest = (u.0, rest)
+  under_replaced n (p ∷ ps) r e l u = grind (arith, common_steps, under_replaced n ps r e l u.1)
 
   under_after : (f : E) (size : ℕ) (ts : List (Transaction E)) (ps : List (Pending E)) (acts : List (Act E)) → Valid f size ts ps acts → AllUnder size ps → AllUnder size (pending_after ps acts)
   under_after f size ts ps [] v u = u
@@ -150,15 +140,7 @@ module _ {E : Type 0} where
   held_again : (ps : List (Pending E)) (r q : ℕ) (e : E) → (r ≡ q) ⊎ (holds ps q ≡ true) → holds (replaced ps r e) q ≡ true
   held_again [] r q e (inl s) = or_left (eqb r q) false (eq-eqb r q s)
   held_again [] r q e (inr a) = absurd (both_ways false refl a)
-  held_again (p ∷ ps) r q e d = go (eqb p.at r) refl (eqb p.at q) refl d (held_again ps r q e)
-    where
-      go : (b : Bool) → eqb p.at r ≡ b → (c : Bool) → eqb p.at q ≡ c → (r ≡ q) ⊎ ((c || holds ps q) ≡ true)
-          → ((r ≡ q) ⊎ (holds ps q ≡ true) → holds (replaced ps r e) q ≡ true) → holds (cond b (record { at = r; entry = e } ∷ ps) (p ∷ replaced ps r e)) q ≡ true
-      go true x c y (inl s) ih = or_left (eqb r q) (holds ps q) (eq-eqb r q s)
-      go true x true y (inr a) ih = or_left (eqb r q) (holds ps q) (ap (λ n. eqb n q) (sym (eqb-true p.at r x)) ∙ y)
-      go true x false y (inr a) ih = or_right (eqb r q) (holds ps q) a
-      go false x true y z ih = or_left (eqb p.at q) (holds (replaced ps r e) q) y
-      go false x false y z ih = or_right (eqb p.at q) (holds (replaced ps r e) q) (ih z)
+  held_again (p ∷ ps) r q e d = grind (arith, common_steps, held_again ps r q e)
 
   held_after : (ps : List (Pending E)) (acts : List (Act E)) (q : ℕ) → holds ps q ≡ true → holds (pending_after ps acts) q ≡ true
   held_after ps [] q h = h
@@ -216,13 +198,10 @@ module _ {E : Type 0} where
     T = committed_as k m acts g
 
     count_writes : length t.writes ≡ length (records_in acts)
-    count_writes = sym (length-map t.writes (λ (x : Over). x.at)) ∙ ap length w.records
-
-    count_overs : length t.writes ≡ length (overwritten_in acts)
-    count_overs = sym (length-map t.writes (λ (x : Over). x.version)) ∙ ap length w.overwritten
+    count_writes = grind (arith, common_steps)
 
     fits : Fits f size T ts
-    fits = record { grant = e; safe = safe; number = h.next; valid = w.valid; near = near; few = (let n = ap length w.noted in omega (arith, w.few), omega (arith, w.few, count_overs)); even = sym count_overs ∙ count_writes }
+    fits = grind (arith, common_steps)
 
     count_pending : length ps ≡ length (records_in acts)
     count_pending = ap length w.pending ∙ pending_count acts
@@ -234,10 +213,10 @@ module _ {E : Type 0} where
     room = omega (arith, h.counted, h.unused, h.places, count_writes, count_pending, space)
 
     made_old : (v : ℕ) → v < n → made_by T v ≡ false
-    made_old v l = and_left _ _ (lt-leb m.next v (omega (arith, h.next)))
+    made_old v l = grind (arith, common_steps)
 
     made_new : (v : ℕ) → n ≤ v → v < n + length (records_in acts) → made_by T v ≡ true
-    made_new v l u = and_from _ _ (le-leb m.next v (omega (arith, h.next))) (lt-ltb v (m.next + length (records_in acts)) (omega (arith, h.next)))
+    made_new v l u = grind (arith, common_steps)
 
     low_new : (v : ℕ) → n ≤ v → low_of (T ∷ ts) v ≡ None
     low_new v l =

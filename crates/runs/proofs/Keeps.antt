@@ -1,10 +1,11 @@
 -- Every call that ends no transaction by a grant keeps the invariant of runs.
-use Rattle.std.proofs.Common.{◌≡◌, ℕ, ◌+◌, ◌-◌, ◌<◌, ◌≤◌, Bool, true, false, not, ◌&&◌, leb, List, [], ◌∷◌, ◌++◌, length, get_or, set, Some, None, Option, sym, refl, ap, ◌∙◌, subst, ⊎_elim, arith}
+use Rattle.std.proofs.Common.{◌≡◌, ℕ, ◌+◌, ◌<◌, ◌≤◌, Bool, true, false, not, ◌&&◌, leb, List, [], ◌∷◌, ◌++◌, length, get_or, set, Some, None, Option, sym, refl, ap, ◌∙◌, subst, ⊎_elim, arith}
+use Rattle.std.proofs.lemmas.Grind.{common_steps}
 use Rattle.std.proofs.lemmas.List.{get_or-set_same, get_or-set_other, length-set, length-map, length_push}
 use Rattle.std.proofs.lemmas.Bool.{both_ways, cond-true}
 use Rattle.store.specs.declared.Pending.{Pending}
 use Rattle.store.specs.declared.Version.{Version}
-use Rattle.store.specs.Meaning.{Rules, Inside, Console, holds, pending_list, pending_in, pending_at, console_at, chain_at, newest_at, stamps_of, replaced, origin, own_at}
+use Rattle.store.specs.Meaning.{Rules, Inside, Console, holds, pending_list, pending_in, pending_at, console_at, newest_at, stamps_of, replaced, own_at}
 use Rattle.store.proofs.Pendings.{pending_set, replaced_push, none_any}
 use Rattle.certifier.specs.Marking.{Track, no_track, member, notes, noted, written}
 use Rattle.certifier.specs.Meaning.{LogState, track_at, full}
@@ -18,12 +19,10 @@ use Rattle.runs.proofs.Chains.{has_get_d, held_replaced, records_replaced, membe
 use Rattle.runs.proofs.Acts.{Row, own_row, version_row, write_row}
 use Rattle.runs.proofs.Views.{Lets, put_at}
 use Rattle.runs.proofs.Views.Lets.{second, first}
-use Rattle.runs.proofs.Ties.{console_holds, Matches, Tied, inside, change, row_at}
+use Rattle.runs.proofs.Ties.{console_holds, Matches, Tied, inside, row_at}
 
 not_both : (a b : Bool) → (a && not b) ≡ false → b ≡ false → a ≡ false
-not_both true true e f = absurd (both_ways true f refl)
-not_both true false e f = e
-not_both false b e f = refl
+not_both a b e f = grind (arith, common_steps)
 
 module _ {E : Type 0} where
   -- acts as those of a transaction
@@ -54,21 +53,7 @@ module _ {E : Type 0} where
         → ((q j : ℕ) → (j ≡ k → ⊥) → console_holds c q ≡ true → console_holds (console_at s.store j) q ≡ true → ⊥)
         → s.store.next + pending_in (set s.store.consoles k c) ≤ s.store.room
         → Tied f size (with_current m k p) (put_at s k c t)
-    put_at_lem c t p row free room =
-        let here = get_or-set_same s.store.consoles k c None (omega (arith, h.consoles)) in
-        let there = get_or-set_same s.tracks k t no_track (omega (arith, h.tracks)) in
-        let P : Option (Console E) → Type 0 = λ x. Matches f size m.done x p t in
-        let Q : Track → Type 0 = λ x. Matches f size m.done (get_or (set s.store.consoles k c) k None) p x in
-        change h (record {
-          near = near;
-          consoles = length-set s.store.consoles k c ∙ h.consoles;
-          tracks = length-set s.tracks k t ∙ h.tracks;
-          other_consoles = λ j ne. get_or-set_other s.store.consoles k j c None ne;
-          other_tracks = λ j ne. get_or-set_other s.tracks k j t no_track ne;
-          row = subst Q (sym there) (subst P (sym here) row);
-          free = λ q j ne a b. free q j ne (sym (ap (λ x. console_holds x q) here) ∙ a) b;
-          room = room;
-        })
+    put_at_lem c t p row free room = grind (arith, common_steps)
 
     -- how many entries are pending where console k is at c
     pending_at_lem : (c : Option (Console E)) → pending_in (set s.store.consoles k c) + length (pending_list (console_at s.store k)) ≡ pending_in s.store.consoles + length (pending_list c)
@@ -91,18 +76,7 @@ module _ {E : Type 0} where
       -- the store stays, and the history and the track go on
       go_on : (acts : List (Act E)) (ts : List Track) → length ts ≡ 16 → ((j : ℕ) → (j ≡ k → ⊥) → get_or ts j no_track ≡ track_at s j)
           → Row f size m.done o.pending acts (get_or ts k no_track) → Tied f size (with_current m k (Some acts)) (inside s s.store.consoles ts)
-      go_on acts ts long others new =
-          let P : Option (Console E) → Type 0 = λ x. Matches f size m.done x (Some acts) (get_or ts k no_track) in
-          change h (record {
-            near = near;
-            consoles = h.consoles;
-            tracks = long;
-            other_consoles = λ j ne. refl;
-            other_tracks = others;
-            row = subst P (sym open') new;
-            free = λ q j ne a b. h.apart j k q ne b a;
-            room = h.room;
-          })
+      go_on acts ts long others new = grind (arith, common_steps)
 
       pub own_kept : (r : ℕ) (e : E) → r < size → own_at o.pending r ≡ Some e → Tied f size (with_current m k (Some (acts_at m k ++ (took_own r e ∷ [])))) s
       own_kept r e l q = go_on (acts_at m k ++ (took_own r e ∷ [])) s.tracks h.tracks (λ j ne. refl) (own_row f size m.done o.pending (acts_at m k) (track_at s k) row r e l q)
@@ -122,9 +96,7 @@ module _ {E : Type 0} where
         n = (newest_at s.store r).number
 
         newest : n ≡ (newest_of f (chain_of f m.done r)).number
-        newest =
-            ap (λ (x : E). (get_or (chain_at s.store r) (length (chain_at s.store r) - 1) (origin x)).number) h.entry
-            ∙ ap (λ (c : List (Version E)). (newest_of f c).number) (h.chains r l)
+        newest = grind (arith, common_steps)
 
         again : member r (records_in (acts_at m k)) ≡ true → member n (overwritten_in (acts_at m k)) ≡ true
         again a =
@@ -143,7 +115,7 @@ module _ {E : Type 0} where
             subst P same (member_holds (acts_at m k) w.0 ∙ act_writes (as_if (acts_at m k)) w.0 w.1 n w.2)
 
         held_in : holds (pending_at s.store k) r ≡ holds o.pending r
-        held_in = ap (λ (c : Option (Console E)). holds (pending_list c) r) open'
+        held_in = grind (arith, common_steps)
 
         track_room : member r (records_of (track_at s k).writes) ≡ false → leb 16 (length (track_at s k).writes) ≡ false
         track_room a =

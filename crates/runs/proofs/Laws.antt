@@ -1,7 +1,7 @@
 -- The law, of every run.
-use Rattle.std.proofs.Common.{◌≡◌, ℕ, ◌+◌, ◌-◌, ◌<◌, List, [], ◌∷◌, map, length, get_or, vec_items, Ok, sym, refl, ap, ◌∙◌, subst, ap₂, inl, arith}
-use Rattle.store.specs.declared.Version.{Version}
-use Rattle.store.specs.Meaning.{State, Rules, Inside, Range, chain_at, origin, newest_at}
+use Rattle.std.proofs.lemmas.Grind.{common_steps}
+use Rattle.std.proofs.Common.{◌≡◌, ℕ, ◌+◌, ◌<◌, List, [], ◌∷◌, map, vec_items, Ok, sym, refl, ap, ◌∙◌, subst, ap₂, inl, arith}
+use Rattle.store.specs.Meaning.{State, Rules, Inside, Range, newest_at}
 use Rattle.certifier.specs.declared.Call.{Call}
 use Rattle.certifier.specs.Ranking.{joined}
 use Rattle.certifier.specs.Meaning.{LogState, Reply, answers_of, after, opened}
@@ -36,9 +36,7 @@ module _ {E : Type 0} where
     }
 
     newest : (r : ℕ) → r < size → (newest_of first (chain_of first m.done r)).entry ≡ (newest_at s.store r).entry
-    newest r l =
-        sym (ap (λ (c : List (Version E)). (newest_of first c).entry) (h.chains r l))
-        ∙ ap (λ (x : E). (get_or (chain_at s.store r) (length (chain_at s.store r) - 1) (origin x)).entry) (sym h.entry)
+    newest r l = grind (arith, common_steps)
 
     serial : Serial size first s m.done
     serial = record { reads = replays first size m.done h.good; ends = λ r l. ends first size m.done h.good r l ∙ newest r l }
@@ -64,7 +62,7 @@ module _ {E : Type 0} where
       )
 
   marks : {first : E} {size : ℕ} {s : LogState E} (es : List (Event E)) → Tied first size (summary_of size es) s → Judged (unused size) es → Marked size s es
-  marks es h j = record { counted = h.counted ∙ sym h.next; marks = λ v l. h.marks v (omega (arith, h.next)); judged = j }
+  marks es h j = grind (arith, common_steps)
 
   lawful : (rules : Rules) → Inside rules → (size room : ℕ) → Range size room → (first : E) (cs : List (Call E))
       → Lawful rules size room first (after rules (opened size room first) cs) (history_of cs (answers_of rules (opened size room first) cs))

@@ -1,7 +1,8 @@
 -- The commits as they are kept by low mark are the history's rank.
-use Rattle.std.proofs.Common.{◌≡◌, ℕ, zero, suc, ◌+◌, ◌<◌, ◌≤◌, Bool, true, false, ◌&&◌, ◌||◌, eqb, ltb, List, [], ◌∷◌, ◌++◌, map, length, get_or, set, replicate, sym, refl, ap, ◌∙◌, subst, inl, inr, arith}
-use Rattle.std.proofs.lemmas.List.{map-append, length-set, length-replicate}
-use Rattle.std.proofs.lemmas.Bool.{lt-ltb, le-ltb, ltb-false, eq-eqb, ne_eqb, cond-true, cond-false}
+use Rattle.std.proofs.lemmas.Grind.{common_steps}
+use Rattle.std.proofs.Common.{◌≡◌, ℕ, zero, suc, ◌+◌, ◌<◌, ◌≤◌, true, false, ltb, List, [], ◌∷◌, ◌++◌, map, length, get_or, set, replicate, sym, refl, ap, ◌∙◌, subst, inl, inr, arith}
+use Rattle.std.proofs.lemmas.List.{length-set, length-replicate}
+use Rattle.std.proofs.lemmas.Bool.{lt-ltb, cond-true, cond-false}
 use Rattle.certifier.specs.Ranking.{Ranks, joined}
 use Rattle.runs.specs.History.{Transaction, is_before, inserted, in_rank}
 use Rattle.runs.specs.Law.{Has}
@@ -22,10 +23,7 @@ module _ {E : Type 0} where
 
   filed_joined : (i : ℕ) (bs : List (List ℕ)) (us : List (Transaction E)) → Filed i bs us → joined bs ≡ stamps_by us
   filed_joined i [] us f = sym (ap stamps_by f)
-  filed_joined i (b ∷ bs) us (xs, ys, e, s, l, f) =
-      ap (λ (x : List ℕ). x ++ joined bs) (sym s)
-      ∙ (ap (λ (x : List ℕ). stamps_by xs ++ x) (filed_joined (i + 1) bs ys f)
-      ∙ (sym (map-append (λ (t : Transaction E). t.grant.stamp) xs ys) ∙ ap stamps_by (sym e)))
+  filed_joined i (b ∷ bs) us (xs, ys, e, s, l, f) = grind (arith, common_steps, filed_joined (i + 1) bs ys f)
 
   filed_none : (us : List (Transaction E)) → us ≡ [] → (i n : ℕ) → Filed i (replicate n []) us
   filed_none us e i zero = e
@@ -42,20 +40,10 @@ module _ {E : Type 0} where
 
   module _ (t : Transaction E) where
     before_later : (u : Transaction E) → t.grant.low ≤ u.grant.low → u.grant.stamp < t.grant.stamp → is_before t u ≡ true
-    before_later u l s = go (ltb t.grant.low u.grant.low) refl
-      where
-        go : (b : Bool) → ltb t.grant.low u.grant.low ≡ b → (b || (eqb t.grant.low u.grant.low && ltb u.grant.stamp t.grant.stamp)) ≡ true
-        go true e = refl
-        go false e =
-            let same = eq-eqb t.grant.low u.grant.low (omega (arith, ltb-false t.grant.low u.grant.low e)) in
-            let less = lt-ltb u.grant.stamp t.grant.stamp s in
-            rw (same, less)
+    before_later u l s = grind (arith, common_steps)
 
     before_none : (u : Transaction E) → u.grant.low < t.grant.low → is_before t u ≡ false
-    before_none u l =
-        let a = le-ltb t.grant.low u.grant.low (omega arith) in
-        let b = ne_eqb t.grant.low u.grant.low (λ e. omega arith) in
-        rw (a, b)
+    before_none u l = grind (arith, common_steps)
 
     -- t goes in front of those that have at least its low mark, and behind those that have less
     in_front : (us : List (Transaction E)) → ((u : Transaction E) → Has u us → t.grant.low ≤ u.grant.low) → ((u : Transaction E) → Has u us → u.grant.stamp < t.grant.stamp) → inserted t us ≡ t ∷ us

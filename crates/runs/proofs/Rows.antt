@@ -1,7 +1,8 @@
 -- The table of marks: what a commit takes from it, and what it leaves in each row.
-use Rattle.std.proofs.Common.{◌≡◌, ℕ, ◌+◌, ◌-◌, ◌<◌, ◌≤◌, max, Bool, true, false, cond, ◌||◌, eqb, ltb, leb, List, [], ◌∷◌, ◌++◌, map, length, set, replicate, Some, None, Option, sym, refl, ap, ◌∙◌, ap₂, ⊎_elim, arith}
-use Rattle.std.proofs.lemmas.List.{append-nil, append_assoc, length-set, length-append, length_push, length-replicate, get_or-set_same, get_or-set_other, get_or_append_left, get_or-append_right, get_or-replicate}
-use Rattle.std.proofs.lemmas.Bool.{lt-ltb, cond-true, cond-false, eq-eqb, ne_eqb, cases_eq}
+use Rattle.std.proofs.lemmas.Grind.{common_steps}
+use Rattle.std.proofs.Common.{◌≡◌, ℕ, ◌+◌, ◌-◌, ◌<◌, ◌≤◌, max, Bool, true, false, cond, ◌||◌, eqb, ltb, leb, List, [], ◌∷◌, ◌++◌, map, length, set, replicate, Some, Option, sym, refl, ap, ◌∙◌, ap₂, arith}
+use Rattle.std.proofs.lemmas.List.{append-nil, append_assoc, length-set, length-append, length_push, length-replicate, get_or_append_left, get_or-append_right, get_or-replicate}
+use Rattle.std.proofs.lemmas.Bool.{lt-ltb, cond-true}
 use Rattle.certifier.specs.declared.Grant.{Grant}
 use Rattle.certifier.specs.declared.Mark.{Mark}
 use Rattle.certifier.specs.declared.Over.{Over}
@@ -24,15 +25,9 @@ abbrev pub high_right : List Mark → List ℕ → ℕ
 high_right ms [] = 0
 high_right ms (n ∷ ns) = max (mark_at ms n).high (high_right ms ns)
 
-low_or_swap : (l : ℕ) (a b : Option ℕ) → low_or (low_or l a) b ≡ low_or (low_or l b) a
-low_or_swap l None None = refl
-low_or_swap l None (Some y) = refl
-low_or_swap l (Some x) None = refl
-low_or_swap l (Some x) (Some y) = omega arith
-
 low_out : (ms : List Mark) (l : ℕ) (o : Option ℕ) (ns : List ℕ) → low_mark ms (low_or l o) ns ≡ low_or (low_mark ms l ns) o
 low_out ms l o [] = refl
-low_out ms l o (n ∷ ns) = ap (λ (m : ℕ). low_mark ms m ns) (low_or_swap l o (mark_at ms n).low) ∙ low_out ms (low_or l (mark_at ms n).low) o ns
+low_out ms l o (n ∷ ns) = grind (arith, common_steps, low_out ms (low_or l (mark_at ms n).low) o ns)
 
 low_right_lem : (ms : List Mark) (c : ℕ) (ns : List ℕ) → low_mark ms c ns ≡ low_right ms c ns
 low_right_lem ms c [] = refl
@@ -85,13 +80,7 @@ length_changed f ms [] = refl
 length_changed f ms (n ∷ ns) = length_changed f (set ms n (f (mark_at ms n))) ns ∙ length-set ms n _
 
 changed_one : (f : Mark → Mark) (ms : List Mark) (n v : ℕ) → v < length ms → mark_at (set ms n (f (mark_at ms n))) v ≡ cond (eqb n v) (f (mark_at ms v)) (mark_at ms v)
-changed_one f ms n v h =
-    ⊎_elim
-    (λ e. let l : n < length ms = omega arith in
-    ap (λ x. mark_at (set ms n (f (mark_at ms n))) x) (sym e) ∙ get_or-set_same ms n _ (new_mark 0) l
-    ∙ ap (λ x. f (mark_at ms x)) e ∙ sym (cond-true (eqb n v) _ _ (eq-eqb n v e)))
-    (λ ne. get_or-set_other ms n v _ (new_mark 0) (λ q. ne (sym q)) ∙ sym (cond-false (eqb n v) _ _ (ne_eqb n v ne)))
-    (cases_eq n v)
+changed_one f ms n v h = grind (arith, common_steps)
 
 changed_step : (f : Mark → Mark) (twice : (m : Mark) → f (f m) ≡ f m) (a b : Bool) (m x : Mark) → x ≡ cond a (f m) m → cond b (f x) x ≡ cond (a || b) (f m) m
 changed_step f twice true true m x e = ap f e ∙ twice m

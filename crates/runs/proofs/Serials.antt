@@ -1,6 +1,7 @@
 -- The committed transactions, run singly in rank order on the plain ledger, give what the log gave.
-use Rattle.std.proofs.Common.{◌≡◌, ℕ, ◌<◌, ◌≤◌, Bool, true, false, cond, eqb, ◌⊎◌, List, [], ◌∷◌, length, get_or, set, replicate, Some, None, Option, sym, refl, ap, ◌∙◌, subst, inl, inr, arith}
-use Rattle.std.proofs.lemmas.Bool.{eqb-true, eq-eqb, ne_eqb, both_ways, cases_eq, cases_lt}
+use Rattle.std.proofs.lemmas.Grind.{common_steps}
+use Rattle.std.proofs.Common.{◌≡◌, ℕ, ◌<◌, ◌≤◌, ◌⊎◌, List, [], ◌∷◌, length, get_or, set, replicate, Some, None, Option, sym, refl, ap, ◌∙◌, subst, inl, inr, arith}
+use Rattle.std.proofs.lemmas.Bool.{eq-eqb, ne_eqb, both_ways, cases_eq, cases_lt}
 use Rattle.std.proofs.lemmas.List.{length-set, get_or-set_same, get_or-set_other, get_or-replicate, length-replicate}
 use Rattle.store.specs.declared.Version.{Version}
 use Rattle.store.specs.declared.Pending.{Pending}
@@ -108,7 +109,7 @@ module _ {E : Type 0} (first : E) (size : ℕ) where
 
   valid_of : (ts : List (Transaction E)) → Good first size ts → (t : Transaction E) → Has t ts → (us : List (Transaction E)) × Valid first size us [] t.acts
   valid_of [] g t h = elim h [ ]
-  valid_of (w ∷ ws) g t (inl e) = (ws, subst (λ (x : Transaction E). Valid first size ws [] x.acts) (sym e) g.0.valid)
+  valid_of (w ∷ ws) g t (inl e) = grind (arith, common_steps)
   valid_of (w ∷ ws) g t (inr h) = valid_of ws g.1 t h
 
 abbrev or_else : {A : Type 0} → Option A → A → A
@@ -118,20 +119,11 @@ or_else (Some x) d = x
 -- the entry pending after one more write
 own_same : {E : Type 0} (ps : List (Pending E)) (r : ℕ) (e : E) → own_at (replaced ps r e) r ≡ Some e
 own_same [] r e = rw (eq-eqb r r refl)
-own_same {E} (p ∷ ps) r e = go (own_same ps r e) (eqb p.at r) refl
-  where
-    go : own_at (replaced ps r e) r ≡ Some e → (b : Bool) → eqb p.at r ≡ b → own_at (cond b (record { at = r; entry = e } ∷ ps) (p ∷ replaced ps r e)) r ≡ Some e
-    go ih true k = rw (eq-eqb r r refl)
-    go ih false k = rw k ih
+own_same {E} (p ∷ ps) r e = grind (arith, common_steps, own_same ps r e)
 
 own_other : {E : Type 0} (ps : List (Pending E)) (r q : ℕ) (e : E) → (r ≡ q → ⊥) → own_at (replaced ps r e) q ≡ own_at ps q
 own_other [] r q e n = rw (ne_eqb r q n)
-own_other {E} (p ∷ ps) r q e n = go (own_other ps r q e n) (eqb p.at r) refl
-  where
-    go : own_at (replaced ps r e) q ≡ own_at ps q → (b : Bool) → eqb p.at r ≡ b
-        → own_at (cond b (record { at = r; entry = e } ∷ ps) (p ∷ replaced ps r e)) q ≡ cond (eqb p.at q) (Some p.entry) (own_at ps q)
-    go ih true k = rw (ne_eqb r q n, ne_eqb p.at q (λ j. n (sym (eqb-true p.at r k) ∙ j)))
-    go ih false k = rw ih
+own_other {E} (p ∷ ps) r q e n = grind (arith, common_steps, own_other ps r q e n)
 
 -- the ledger l inside a transaction: cur is what each record's entry was as it began
 record Within {E : Type 0} (first : E) (size : ℕ) (cur : ℕ → E) (ps : List (Pending E)) (l : List E) : Type 0 where
@@ -154,15 +146,11 @@ module _ {E : Type 0} (first : E) (size : ℕ) (cur : ℕ → E) where
       → ((r : ℕ) (v : Version E) → Has (took_version r v) acts → cur r ≡ v.entry) → Valid first size ts ps acts
       → AllAgree first l acts × Within first size cur (pending_after ps acts) (ran l acts)
   walked ts [] ps l h s k = (tt, h)
-  walked ts (took_own r e ∷ rest) ps l h s k =
-      let w = walked ts rest ps l h (λ q v m. s q v (inr m)) k.2 in
-      ((h.entries r k.0 ∙ ap (λ o. or_else o (cur r)) k.1, w.0), w.1)
+  walked ts (took_own r e ∷ rest) ps l h s k = grind (arith, common_steps, walked ts rest ps l h (λ q v m. s q v (inr m)) k.2)
   walked ts (took_version r v ∷ rest) ps l h s k =
       let w = walked ts rest ps l h (λ q u m. s q u (inr m)) k.3 in
       ((h.entries r k.0 ∙ (ap (λ o. or_else o (cur r)) k.1 ∙ s r v (inl refl)), w.0), w.1)
-  walked ts (put r e n ∷ rest) ps l h s k =
-      let w = walked ts rest (replaced ps r e) (set l r e) (within_write ps l r e k.0 h) (λ q u m. s q u (inr m)) k.2 in
-      ((tt, w.0), w.1)
+  walked ts (put r e n ∷ rest) ps l h s k = grind (arith, common_steps, walked ts rest (replaced ps r e) (set l r e) (within_write ps l r e k.0 h) (λ q u m. s q u (inr m)) k.2)
 
 module _ {E : Type 0} where
   -- the entry that record r has after the transactions of past, of which the last stands first
@@ -185,7 +173,7 @@ module _ {E : Type 0} where
   last_is : (first : E) (past : List (Transaction E)) → Falling past → (r : ℕ) (w : Transaction E) (e : E) → Has w past → own_at (pending_of w) r ≡ Some e
       → ((u : Transaction E) → Has u past → Wrote u r → Before w u → ⊥) → last_of first past r ≡ e
   last_is first [] f r w e h o n = elim h [ ]
-  last_is first (t ∷ past) f r w e (inl q) o n = ap (λ x. or_else x (last_of first past r)) (subst (λ (x : Transaction E). own_at (pending_of x) r ≡ Some e) q o)
+  last_is first (t ∷ past) f r w e (inl q) o n = grind (arith, common_steps)
   last_is first (t ∷ past) f r w e (inr h) o n =
       last_skips first t past r (λ k. n t (inl refl) k (f.0 w h)) ∙ last_is first past f.1 r w e h o (λ u m. n u (inr m))
 
@@ -247,13 +235,7 @@ module _ {E : Type 0} (first : E) (size : ℕ) (done : List (Transaction E)) (g 
   -- t comes next: what it read of a record is what the transactions before it left there
   module _ (past : List (Transaction E)) (t : Transaction E) (rest : List (Transaction E)) (s : Split done past (t ∷ rest)) where
     run : (w : Transaction E) → Has w done → Before w t → Has w past
-    run w h b = elim (s.all w h) [
-      | inl p ↦ p
-      | inr q ↦ elim q [
-        | inl e ↦ absurd (before_irrefl t (subst (λ (x : Transaction E). Before x t) e b))
-        | inr k ↦ absurd (before_asym t w (s.rising.0 w k) b)
-      ]
-    ]
+    run w h b = grind (arith, common_steps)
 
     not_run : (r : ℕ) (v : Version E) → Has (took_version r v) t.acts → (u : Transaction E) → Has u past → Wrote u r → v.stamp < u.grant.stamp → ⊥
     not_run r v a u k w l =

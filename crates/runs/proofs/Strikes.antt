@@ -1,7 +1,8 @@
 -- Without its refused calls and its transactions that never committed, a history answers as it did.
+use Rattle.std.proofs.lemmas.Grind.{common_steps}
 use Rattle.std.proofs.Common.{◌≡◌, ℕ, zero, suc, ◌+◌, ◌<◌, ◌≤◌, Bool, true, false, cond, not, ◌&&◌, eqb, leb, ◌≢◌, List, [], ◌∷◌, length, get_or, set, replicate, Some, None, Option, sym, refl, ap, ◌∙◌, subst, ap₂, arith}
 use Rattle.std.proofs.lemmas.List.{set-get_or}
-use Rattle.std.proofs.lemmas.Bool.{eq-eqb, ne_eqb, eqb-true, eqb-false, or_parts, or_from, both_ways, true≢false, false≢true, cond-true, cond-false, cond_both}
+use Rattle.std.proofs.lemmas.Bool.{eq-eqb, eqb-true, eqb-false, or_parts, or_from, both_ways, false≢true, cond-true, cond-false, cond_both}
 use Rattle.store.specs.declared.Code.{Code}
 use Rattle.store.specs.Meaning.{Rules, Console, console_at, newest_at, own_at, replaced, committed, holds, any_holds, pending_in, pending_list, appended}
 use Rattle.certifier.specs.declared.Grant.{Grant}
@@ -13,7 +14,7 @@ use Rattle.certifier.specs.Refusals.{unsafe}
 use Rattle.certifier.specs.Meaning.{LogState, Reply, track_at, tracking, full, grant_at, settled, opened, step, answers_of, after}
 use Rattle.certifier.specs.Meaning.Reply.{begun, own, saw, overwrites, granted, dropped, refused}
 use Rattle.runs.specs.History.{Event, console_of, history_of}
-use Rattle.runs.specs.Striking.{accepted, is_granted, ends, fate, kept, calls_of, answers_in, Commits, Left, Struck}
+use Rattle.runs.specs.Striking.{accepted, ends, fate, kept, calls_of, answers_in, Commits, Left, Struck}
 use Rattle.runs.specs.Striking.Commits.{now, later}
 use Rattle.runs.specs.Striking.Left.{end, stays, struck as goes}
 use Rattle.runs.proofs.Views.{Live, Lets, Step, put_at, shown_to, plays, view}
@@ -57,13 +58,8 @@ module _ {A : Type 0} (d : A) where
   -- two tests that differ at k alone
   masked_but : (f g : ℕ → Bool) (xs : List A) (k : ℕ) → ((j : ℕ) → j ≢ k → f j ≡ g j) → set (masked f xs) k d ≡ set (masked g xs) k d
   masked_but f g [] k e = refl
-  masked_but f g (x ∷ xs) zero e = ap (λ l. d ∷ l) (same (λ j. f (suc j)) (λ j. g (suc j)) xs (λ j. e (suc j) (omega arith)))
-    where
-      same : (f g : ℕ → Bool) (xs : List A) → ((j : ℕ) → f j ≡ g j) → masked f xs ≡ masked g xs
-      same f g [] e = refl
-      same f g (x ∷ xs) e = ap₂ (λ b l. cond b x d ∷ l) (e 0) (same (λ j. f (suc j)) (λ j. g (suc j)) xs (λ j. e (suc j)))
-  masked_but f g (x ∷ xs) (suc k) e =
-      ap₂ (λ b l. cond b x d ∷ l) (e 0 (omega arith)) (masked_but (λ j. f (suc j)) (λ j. g (suc j)) xs k (λ j n. e (suc j) (λ s. n (omega arith))))
+  masked_but f g (x ∷ xs) zero e = grind (arith, common_steps)
+  masked_but f g (x ∷ xs) (suc k) e = grind (arith, common_steps, masked_but (λ j. f (suc j)) (λ j. g (suc j)) xs k (λ j n. e (suc j) (λ s. n (omega arith))))
 
   masked_ended : (f g : ℕ → Bool) (xs : List A) (k : ℕ) → ((j : ℕ) → j ≢ k → f j ≡ g j) → set (masked f xs) k d ≡ masked g (set xs k d)
   masked_ended f g xs k e = masked_but f g xs k e ∙ sym (masked_set g xs k d ∙ ap (set (masked g xs) k) (cond_same (g k)))
@@ -83,11 +79,7 @@ module _ {E : Type 0} where
 
   masked_pending : (f : ℕ → Bool) (cs : List (Option (Console E))) → pending_in (masked None f cs) ≤ pending_in cs
   masked_pending f [] = omega arith
-  masked_pending f (c ∷ cs) = omega (arith, one (f 0), masked_pending (λ k. f (suc k)) cs)
-    where
-      one : (b : Bool) → length (pending_list (cond b c None)) ≤ length (pending_list c)
-      one true = omega arith
-      one false = omega arith
+  masked_pending f (c ∷ cs) = grind (arith, common_steps, masked_pending (λ k. f (suc k)) cs)
 
   -- the same log with other consoles and tracks
   abbrev beside : LogState E → List (Option (Console E)) → List Track → LogState E
@@ -145,14 +137,11 @@ module _ {E : Type 0} where
 
   -- a commit, a drop or UNSAFE at console k decides on its own console alone
   elsewhere : (b : Bool) (h : List (Event E)) (k j : ℕ) → j ≢ k → cond (eqb k j) b (fate j h) ≡ fate j h
-  elsewhere b h k j n = cond-false (eqb k j) _ _ (ne_eqb k j (λ e. n (sym e)))
+  elsewhere b h k j n = grind (arith, common_steps)
 
   module _ (rules : Rules) (s : LogState E) (h : List (Event E)) where
     follows_refusal : (c : Call E) (x : Code) → eqb x.number 11 ≡ false → Follows rules s c (refused x) s h
-    follows_refusal c x e = record {
-      when_kept = λ on. absurd (false≢true on);
-      when_struck = λ off. ap (λ (b : Bool). only (λ k. cond (b && eqb (console_of c) k) false (fate k h)) s) e;
-    }
+    follows_refusal c x e = grind (arith, common_steps)
 
     follows_begins : (k : ℕ) → k < 16 → console_at s.store k ≡ None
         → Follows rules s (Begin k) (begun s.store.clock) (put_at s k (Some (record { began = s.store.clock; pending = [] })) no_track) h
@@ -285,10 +274,7 @@ module _ {E : Type 0} where
     state : after rules t (calls_of l) ≡ u
 
   one_more : (rules : Rules) (t t' u : LogState E) (c : Call E) (x : Reply E) (l : List (Event E)) → step rules t c ≡ (x, t') → Replays rules t' u l → Replays rules t u (event c x ∷ l)
-  one_more rules t t' u c x l e r = record {
-    answers = ap (λ (p : Reply E × LogState E). p.0 ∷ answers_of rules p.1 (calls_of l)) e ∙ ap (λ xs. x ∷ xs) r.answers;
-    state = ap (λ (p : Reply E × LogState E). after rules p.1 (calls_of l)) e ∙ r.state;
-  }
+  one_more rules t t' u c x l e r = grind (arith, common_steps)
 
   -- what is left of a history, played beside it
   replays : (rules : Rules) (cs : List (Call E)) (s : LogState E)
@@ -319,24 +305,10 @@ module _ {E : Type 0} where
   only_opened f size room e = ap₂ (beside (opened size room e)) (masked_filled None f 16) (masked_filled no_track f 16)
 
   -- `fate` and `kept` say what the rules `Commits` and `Left` say
-  granted_ends : (x : Reply E) → is_granted x ≡ true → ends x ≡ true
-  granted_ends (begun b) e = e
-  granted_ends (own a) e = e
-  granted_ends (saw v) e = e
-  granted_ends (overwrites n) e = e
-  granted_ends (granted g) e = e
-  granted_ends dropped e = refl
-  granted_ends (refused c) e = absurd (false≢true e)
-
   commits_fate : (k : ℕ) (h : List (Event E)) → Commits k h → fate k h ≡ true
   commits_fate k [] c = elim c [ ]
-  commits_fate k (v ∷ rest) (now e g) = rw (granted_ends v.reply g, eq-eqb (console_of v.call) k e, g)
-  commits_fate k (v ∷ rest) (later off c) = by_tests (ends v.reply) refl (eqb (console_of v.call) k) refl (commits_fate k rest c)
-    where
-      by_tests : (b : Bool) → ends v.reply ≡ b → (q : Bool) → eqb (console_of v.call) k ≡ q → fate k rest ≡ true → fate k (v ∷ rest) ≡ true
-      by_tests false e q eq on = rw e on
-      by_tests true e false eq on = rw (e, eq) on
-      by_tests true e true eq on = absurd (true≢false (sym e ∙ off (eqb-true (console_of v.call) k eq)))
+  commits_fate k (v ∷ rest) (now e g) = grind (arith, common_steps)
+  commits_fate k (v ∷ rest) (later off c) = grind (arith, common_steps, commits_fate k rest c)
 
   fate_commits : (k : ℕ) (h : List (Event E)) → fate k h ≡ true → Commits k h
   fate_commits k [] f = absurd (false≢true f)

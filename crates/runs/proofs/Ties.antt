@@ -1,4 +1,5 @@
 -- The invariant of runs: what ties a log's state to its history, and that it is kept where one console changes.
+use Rattle.std.proofs.lemmas.Grind.{common_steps}
 use Rattle.std.proofs.Common.{◌≡◌, ℕ, ◌+◌, ◌<◌, ◌≤◌, Bool, true, List, [], ◌∷◌, length, get_or, set, Some, None, Option, sym, refl, ap, ◌∙◌, subst, ⊎_elim, arith}
 use Rattle.std.proofs.lemmas.List.{get_or-set_same, get_or-set_other, length-set}
 use Rattle.std.proofs.lemmas.Bool.{cases_eq}
@@ -59,11 +60,7 @@ module _ {E : Type 0} where
 
   pub matches_by : (first : E) (size : ℕ) (ts : List (Transaction E)) {o o' : Option (Console E)} {p p' : Option (List (Act E))} {t t' : Track}
       → o ≡ o' → p ≡ p' → t ≡ t' → Matches first size ts o p t → Matches first size ts o' p' t'
-  matches_by first size ts {o} {o'} {p} {p'} {t} {t'} eo ep et h =
-      let P : Option (Console E) → Type 0 = λ x. Matches first size ts x p t in
-      let Q : Option (List (Act E)) → Type 0 = λ x. Matches first size ts o' x t in
-      let S : Track → Type 0 = λ x. Matches first size ts o' p' x in
-      subst S et (subst Q ep (subst P eo h))
+  matches_by first size ts {o} {o'} {p} {p'} {t} {t'} eo ep et h = grind (arith, common_steps)
 
   -- what console k's row has to be, and where its entries may stand, for consoles cs and tracks ts that differ there alone
   pub record Change (first : E) (size : ℕ) (m : Summary E) (s : LogState E) (k : ℕ) (cs : List (Option (Console E))) (ts : List Track) (p : Option (List (Act E))) : Type 0 where
@@ -120,24 +117,10 @@ module _ {E : Type 0} where
           (cases_eq i k))
           (cases_eq j k)
 
-  -- an open console's row
-  row_of : (first : E) (size : ℕ) (ts : List (Transaction E)) (o : Option (Console E)) (p : Option (List (Act E))) (t : Track) (c : Console E) → Matches first size ts o p t → o ≡ Some c
-      → (p ≡ Some (elim p [ None ↦ [] | Some acts ↦ acts ])) × Row first size ts c.pending (elim p [ None ↦ [] | Some acts ↦ acts ]) t
-  row_of first size ts None p t c x e = absurd (let z : ◌≡◌ {A = ℕ} 0 1 = cc in omega arith)
-  row_of first size ts (Some d) None t c x e = absurd x
-  row_of first size ts (Some d) (Some acts) t c x e =
-      let k : d ≡ c = cc in
-      let P : Console E → Type 0 = λ y. Row first size ts y.pending acts t in
-      (refl, subst P k x)
-
+  -- an open console's row, and that a shut one has none
   pub row_at : {first : E} {size : ℕ} {m : Summary E} {s : LogState E} → Tied first size m s → (k : ℕ) (o : Console E) → console_at s.store k ≡ Some o
       → (current_at m k ≡ Some (acts_at m k)) × Row first size m.done o.pending (acts_at m k) (track_at s k)
-  row_at {first} {size} {m} {s} h k o e = row_of first size m.done (console_at s.store k) (current_at m k) (track_at s k) o (h.rows k) e
-
-  shut_of : (first : E) (size : ℕ) (ts : List (Transaction E)) (o : Option (Console E)) (p : Option (List (Act E))) (t : Track) → Matches first size ts o p t → o ≡ None → p ≡ None
-  shut_of first size ts None None t x e = refl
-  shut_of first size ts None (Some acts) t x e = absurd x
-  shut_of first size ts (Some d) p t x e = absurd (let z : ◌≡◌ {A = ℕ} 0 1 = cc in omega arith)
+  row_at {first} {size} {m} {s} h k o e = grind (arith, common_steps)
 
   pub shut_at : {first : E} {size : ℕ} {m : Summary E} {s : LogState E} → Tied first size m s → (k : ℕ) → console_at s.store k ≡ None → current_at m k ≡ None
-  shut_at {first} {size} {m} {s} h k e = shut_of first size m.done (console_at s.store k) (current_at m k) (track_at s k) (h.rows k) e
+  shut_at {first} {size} {m} {s} h k e = grind (arith, common_steps)

@@ -1,11 +1,11 @@
 -- One view of a step of the log: which of its cases it is, what it was asked, and what it answers and leaves.
-use Rattle.std.proofs.Common.{◌≡◌, ℕ, ◌+◌, ◌<◌, ◌≤◌, Bool, true, false, cond, ◌||◌, eqb, ltb, [], length, Some, None, Option, sym, refl, ap, ◌∙◌, subst}
-use Rattle.std.proofs.lemmas.Bool.{lt-ltb, le-ltb, ltb-true, ltb-false, cond_both, cond-true, both_ways}
-use Rattle.store.specs.declared.Layer.TheVariants.{Store}
+use Rattle.std.proofs.lemmas.Grind.{common_steps}
+use Rattle.std.proofs.Common.{arith, ◌≡◌, ℕ, ◌+◌, ◌<◌, ◌≤◌, Bool, true, false, cond, ◌||◌, eqb, ltb, [], length, Some, None, Option, sym, refl, subst}
+use Rattle.std.proofs.lemmas.Bool.{lt-ltb, ltb-true, ltb-false, cond_both, both_ways}
 use Rattle.store.specs.declared.Code.{Code}
 use Rattle.store.specs.declared.Version.{Version}
-use Rattle.store.specs.Refusals.{Answer, no_record, day_full}
-use Rattle.store.specs.Refusals.Answer.{gives, refuses}
+use Rattle.store.specs.Refusals.{Answer}
+use Rattle.store.specs.Refusals.Answer.{gives}
 use Rattle.store.specs.Meaning as store
 use Rattle.store.specs.Meaning.{Rules, State, Console, console_at, chain_at, newest_at, picked, origin, own_at, holds, any_holds, pending_in, versions_in, with_console, replaced, committed}
 use Rattle.certifier.specs.declared.Call.{Call}
@@ -52,10 +52,6 @@ module _ {E : Type 0} where
     fails : (k : ℕ) (o : Console E) → Live s k o → s.store.clock < 4000 → (grant_at s k).low ≤ (grant_at s k).high → Step rules s (Commit k) (refused unsafe) (put_at s k None no_track)
     drops : (k : ℕ) (o : Console E) → Live s k o → Step rules s (Drop k) dropped (put_at s k None no_track)
 
-  -- what the store does at an open console
-  at_live : {A : Type 0} (s : LogState E) (k : ℕ) (o : Console E) → Live s k o → (f : Console E → Answer A) → store.at_open s.store k f ≡ f o
-  at_live s k o a f = rw (lt-ltb k 16 a.near, a.console)
-
   -- what the step does in each case
   begin_plays : (s : LogState E) (k : ℕ) → k < 16 → console_at s.store k ≡ None
       → begin_step s k ≡ (begun s.store.clock, put_at s k (Some (record { began = s.store.clock; pending = [] })) no_track)
@@ -63,48 +59,44 @@ module _ {E : Type 0} where
 
   own_plays : (rules : Rules) (s : LogState E) (k r : ℕ) (o : Console E) (e : E) → Live s k o → r < length s.store.chains → own_at o.pending r ≡ Some e
       → read_step rules s k r ≡ (own e, s)
-  own_plays rules s k r o e a l q = rw (lt-ltb k 16 a.near, a.console, lt-ltb r (length s.store.chains) l, store.shown_at, q)
+  own_plays rules s k r o e a l q = grind (arith, common_steps)
 
   sees_plays : (rules : Rules) (s : LogState E) (k r : ℕ) (o : Console E) → Live s k o → r < length s.store.chains → own_at o.pending r ≡ None
       → notes (track_at s k) (shown_to rules s o r).number ≡ true
       → read_step rules s k r ≡ (saw (shown_to rules s o r), tracking s k s.store (noted (track_at s k) (shown_to rules s o r).number))
-  sees_plays rules s k r o a l q n = rw (lt-ltb k 16 a.near, a.console, lt-ltb r (length s.store.chains) l, store.shown_at, q, n)
+  sees_plays rules s k r o a l q n = grind (arith, common_steps)
 
   drop_plays : (s : LogState E) (k : ℕ) (o : Console E) → Live s k o → drop_step s k ≡ (dropped, put_at s k None no_track)
   drop_plays s k o a = rw (lt-ltb k 16 a.near, a.console)
 
   commit_is : (s : LogState E) (k : ℕ) (o : Console E) → Live s k o → s.store.clock < 4000 → store.commit_of s.store k ≡ (gives (s.store.clock + 1), committed s.store k)
-  commit_is s k o a d =
-      ap (λ (x : Answer ℕ). store.answered s.store x (λ _. committed s.store k))
-      (at_live s k o a (λ _. cond (ltb s.store.clock 4000) (gives (s.store.clock + 1)) (refuses (day_full Store))) ∙ cond-true (ltb s.store.clock 4000) _ _ (lt-ltb _ _ d))
+  commit_is s k o a d = grind (arith, common_steps)
 
   commit_plays : (s : LogState E) (k : ℕ) (o : Console E) → Live s k o → s.store.clock < 4000 → (grant_at s k).high < (grant_at s k).low
       → commit_step s k ≡ (granted (grant_at s k), settled s k (grant_at s k) (committed s.store k))
-  commit_plays s k o a d g = rw (lt-ltb k 16 a.near, a.console, lt-ltb s.store.clock 4000 d, lt-ltb (grant_at s k).high (grant_at s k).low g)
+  commit_plays s k o a d g = grind (arith, common_steps)
 
   fail_plays : (s : LogState E) (k : ℕ) (o : Console E) → Live s k o → s.store.clock < 4000 → (grant_at s k).low ≤ (grant_at s k).high
       → commit_step s k ≡ (refused unsafe, put_at s k None no_track)
-  fail_plays s k o a d g = rw (lt-ltb k 16 a.near, a.console, lt-ltb s.store.clock 4000 d, le-ltb (grant_at s k).high (grant_at s k).low g)
+  fail_plays s k o a d g = grind (arith, common_steps)
 
   -- what the store answers to a write at a record that it has
   abbrev write_at : Rules → LogState E → Console E → ℕ → Answer ℕ
   write_at rules s o r = cond (holds o.pending r) (gives (newest_at s.store r).number) (store.first_write rules s.store o r)
 
   write_is : (rules : Rules) (s : LogState E) (k r : ℕ) (o : Console E) → Live s k o → r < length s.store.chains → store.write_answer rules s.store k r ≡ write_at rules s o r
-  write_is rules s k r o a l =
-      at_live s k o a (λ c. cond (ltb r (length s.store.chains)) (cond (holds c.pending r) (gives (newest_at s.store r).number) (store.first_write rules s.store c r)) (refuses (no_record Store)))
-      ∙ cond-true (ltb r (length s.store.chains)) _ _ (lt-ltb _ _ l)
+  write_is rules s k r o a l = grind (arith, common_steps)
 
   lets_gives : (rules : Rules) (s : LogState E) (o : Console E) (r : ℕ) → Lets rules s o r → write_at rules s o r ≡ gives (newest_at s.store r).number
   lets_gives rules s o r (second h) = rw h
-  lets_gives rules s o r (first h a d l) = rw (h, a, d, lt-ltb (versions_in s.store.chains + pending_in s.store.consoles) s.store.room l)
+  lets_gives rules s o r (first h a d l) = grind (arith, common_steps)
 
   write_plays : (rules : Rules) (s : LogState E) (k r : ℕ) (e : E) (o : Console E) → Live s k o → r < length s.store.chains → full s k r ≡ false → Lets rules s o r
       → write_step rules s k r e ≡ (
         overwrites (newest_at s.store r).number,
         put_at s k (Some (record { began = o.began; pending = replaced o.pending r e })) (written (track_at s k) r (newest_at s.store r).number),
       )
-  write_plays rules s k r e o a l f w = rw (f, write_is rules s k r o a l ∙ lets_gives rules s o r w, lt-ltb k 16 a.near, a.console, lt-ltb r (length s.store.chains) l)
+  write_plays rules s k r e o a l f w = grind (arith, common_steps)
 
   -- what the view says is what the step does, but for a refusal that ends nothing, of which the view does not say when it comes
   pub plays : {rules : Rules} {s : LogState E} {c : Call E} {x : Reply E} {t : LogState E} → Step rules s c x t → (accepted x || ends x) ≡ true → step rules s c ≡ (x, t)

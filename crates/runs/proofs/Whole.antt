@@ -1,23 +1,22 @@
 -- The invariant of runs holds from opening on, whatever is called; and each commit is answered as the history says.
-use Rattle.std.proofs.Common.{◌≡◌, ℕ, zero, suc, ◌+◌, ◌%◌, ◌<◌, Bool, true, false, cond, eqb, ltb, List, [], ◌∷◌, ◌++◌, length, get_or, set, replicate, Some, None, Option, sym, refl, ap, ◌∙◌, subst, ap₂, ⊎_elim, append_assoc, arith}
+use Rattle.std.proofs.Common.{◌≡◌, ℕ, zero, suc, ◌+◌, ◌<◌, Bool, true, false, cond, ltb, List, [], ◌∷◌, ◌++◌, length, get_or, set, replicate, Some, None, Option, sym, refl, ap, ◌∙◌, subst, ⊎_elim, append_assoc, arith}
+use Rattle.std.proofs.lemmas.Grind.{common_steps}
 use Rattle.std.proofs.lemmas.List.{append-nil, get_or-set_same, get_or-set_other, get_or-replicate, length-replicate}
 use Rattle.std.proofs.lemmas.Bool.{both_ways, cond-true, cond-false, cases_eq}
 use Rattle.store.specs.declared.Layer.TheVariants.{Certifier}
-use Rattle.store.specs.declared.Code.{Code}
-use Rattle.store.specs.declared.Pending.{Pending}
 use Rattle.store.specs.declared.Version.{Version}
 use Rattle.store.specs.Refusals.{shut, day_full}
-use Rattle.store.specs.Meaning.{Rules, Inside, Range, Console, holds, pending_list, pending_at, console_at, stamps_of, origin, committed, firsts, shut_all}
+use Rattle.store.specs.Meaning.{Rules, Inside, Range, Console, holds, pending_at, console_at, stamps_of, origin, committed, firsts, shut_all}
 use Rattle.store.proofs.Pendings.{pending_set}
 use Rattle.store.proofs.Lists.{firsts_long, firsts_many}
 use Rattle.certifier.specs.declared.Call.{Call}
 use Rattle.certifier.specs.declared.Call.TheVariants.{Begin, Read, Write, Commit, Drop}
 use Rattle.certifier.specs.Refusals.{unsafe}
-use Rattle.certifier.specs.Marking.{Track, no_track, new_mark}
+use Rattle.certifier.specs.Marking.{no_track, new_mark}
 use Rattle.certifier.specs.Meaning.{LogState, Reply, track_at, grant_at, settled, step, commit_step, answers_of, after, opened}
 use Rattle.certifier.specs.Meaning.Reply.{granted, refused}
-use Rattle.runs.specs.History.{Act, Summary, console_of, read_in, overwritten_in, entries_in, history_of, current_at, acts_at, with_current, finished, advance, advances, unused, judged, grant_of, verdict}
-use Rattle.certifier.specs.Entries.{Entry, entry_at}
+use Rattle.runs.specs.History.{Act, Summary, entries_in, history_of, current_at, acts_at, finished, advance, advances, unused, judged, grant_of, verdict}
+use Rattle.certifier.specs.Entries.{Entry}
 use Rattle.runs.specs.Outcomes.{entry_for, track_for, filed_in}
 use Rattle.runs.specs.Law.{Has, JudgedAs, Judged}
 use Rattle.runs.proofs.Goods.{chain_of}
@@ -36,9 +35,7 @@ module _ {E : Type 0} where
   module _ {f : E} {size : ℕ} {m : Summary E} {s : LogState E} (h : Tied f size m s) where
     -- an open console's row, by what the store has pending there
     pending_row : (k : ℕ) (o : Console E) → console_at s.store k ≡ Some o → Row f size m.done (pending_at s.store k) (acts_at m k) (track_at s k)
-    pending_row k o e =
-        let P : List (Pending E) → Type 0 = λ ps. Row f size m.done ps (acts_at m k) (track_at s k) in
-        subst P (sym (ap pending_list e)) (row_at h k o e).1
+    pending_row k o e = grind (arith, common_steps)
 
     grant_is : (k : ℕ) (o : Console E) → console_at s.store k ≡ Some o → grant_at s k ≡ grant_of m.done (acts_at m k)
     grant_is k o e = grant_same h (pending_at s.store k) (acts_at m k) (track_at s k) (pending_row k o e)
@@ -61,9 +58,7 @@ module _ {E : Type 0} where
 
     -- every call keeps the invariant
     step_kept : (rules : Rules) → Inside rules → (c : Call E) (x : Reply E) (t : LogState E) → Step rules s c x t → Tied f size (advance m (record { call = c; reply = x })) t
-    step_kept rules law c x t (refusal _ y n) =
-        let P : Summary E → Type 0 = λ z. Tied f size z s in
-        subst P (sym (cond-false (eqb y.number 11) _ _ n)) h
+    step_kept rules law c x t (refusal _ y n) = grind (arith, common_steps)
     step_kept rules law c x t (begins k l e) = begun_kept h k l
     step_kept rules law c x t (owns k r o e a l q) = own_kept h k a.near o a.console r e (omega (arith, h.records, l)) q
     step_kept rules law c x t (sees k r o a l q n) =
@@ -111,36 +106,16 @@ module _ {E : Type 0} where
     judged_as rules (Commit k) = judges k
     judged_as rules (Drop k) = tt
 
-  -- what is kept of a call for the day file is what the history says of its commit
-  refused_none : (c : Call E) (x : Code) (t : Track) → entry_for c (refused x) t ≡ []
-  refused_none (Begin k) x t = refl
-  refused_none (Read k r) x t = refl
-  refused_none (Write k r e) x t = refl
-  refused_none (Commit k) x t = refl
-  refused_none (Drop k) x t = refl
-
   module _ {f : E} {size : ℕ} {m : Summary E} {s : LogState E} (h : Tied f size m s) where
-    same_done : (b : Bool) (k : ℕ) → (cond b (with_current m k None) m).done ≡ m.done
-    same_done true k = refl
-    same_done false k = refl
-
-    entry_is : (k : ℕ) (o : Console E) → Live s k o → entry_at k (grant_at s k).low (track_at s (k % 16))
-        ≡ record { console = k; low = (grant_at s k).low; reads = read_in (acts_at m k); writes = overwritten_in (acts_at m k) }
-    entry_is k o a =
-        let w = (row_at h k o a.console).1 in
-        let n : k % 16 ≡ k = omega (arith, a.near) in
-        let F : List ℕ → List ℕ → Entry = λ x y. record { console = k; low = (grant_at s k).low; reads = x; writes = y } in
-        ap (λ j. entry_at k (grant_at s k).low (track_at s j)) n ∙ ap₂ F w.noted w.overwritten
-
+    -- what is kept of a call for the day file is what the history says of its commit
     step_filed : (rules : Rules) (c : Call E) (x : Reply E) (t : LogState E) → Step rules s c x t
         → entries_in m.done ++ entry_for c x (track_for s c) ≡ entries_in (advance m (record { call = c; reply = x })).done
-    step_filed rules c x t (refusal _ y n) =
-        ap (λ (es : List Entry). entries_in m.done ++ es) (refused_none c y (track_for s c)) ∙ (append-nil (entries_in m.done) ∙ sym (ap entries_in (same_done (eqb y.number 11) (console_of c))))
+    step_filed rules c x t (refusal _ y n) = grind (arith, common_steps)
     step_filed rules c x t (begins k l e) = append-nil (entries_in m.done)
     step_filed rules c x t (owns k r o e a l q) = append-nil (entries_in m.done)
     step_filed rules c x t (sees k r o a l q n) = append-nil (entries_in m.done)
     step_filed rules c x t (writes k r e o a l space lets) = append-nil (entries_in m.done)
-    step_filed rules c x t (commits k o a d safe) = ap (λ (e : Entry). entries_in m.done ++ (e ∷ [])) (entry_is k o a)
+    step_filed rules c x t (commits k o a d safe) = grind (arith, common_steps)
     step_filed rules c x t (fails k o a d g) = append-nil (entries_in m.done)
     step_filed rules c x t (drops k o a) = append-nil (entries_in m.done)
 
@@ -168,13 +143,11 @@ module _ {E : Type 0} where
 
   first_chain : (e : E) (n size q : ℕ) → q < size → get_or (firsts e n size) q [] ≡ (record { number = n + q; stamp = 0; entry = e } ∷ [])
   first_chain e n zero q l = absurd (omega arith)
-  first_chain e n (suc size) zero l = ap (λ x. record { number = x; stamp = 0; entry = e } ∷ []) (omega arith)
-  first_chain e n (suc size) (suc q) l = first_chain e (n + 1) size q (omega arith) ∙ ap (λ x. record { number = x; stamp = 0; entry = e } ∷ []) (omega arith)
+  first_chain e n (suc size) zero l = grind (arith, common_steps)
+  first_chain e n (suc size) (suc q) l = grind (arith, common_steps, first_chain e (n + 1) size q (omega arith))
 
 everywhere : {A : Type 0} (n i : ℕ) (a : A) → get_or (replicate n a) i a ≡ a
-everywhere zero i a = refl
-everywhere (suc n) zero a = refl
-everywhere (suc n) (suc i) a = everywhere n i a
+everywhere n i a = grind (arith, common_steps)
 
 module _ {E : Type 0} where
   pub opened_tied : (f : E) (size room : ℕ) → Range size room → Tied f size (unused size) (opened size room f)

@@ -2,7 +2,7 @@
 #![tactic(auto)]
 
 ghost use Rattle.std.specs.Prelude.{◌≡◌, ◌++◌, map, IfOk, OnOk};
-ghost use Rattle.std.specs.Option.{option_map, option_to_list};
+ghost use Rattle.std.specs.Option.{option_to_list};
 ghost use Rattle.certifier.specs.Entries.{track_of, entry_by};
 ghost use Rattle.certifier.specs.Logs.{log_state, reply_of};
 ghost use Rattle.runs.specs.Outcomes.{entry_for, track_for, replies_of, Plays, Runs};
@@ -30,7 +30,7 @@ struct Played<E> {
 
 // What is kept of a call with this answer, which found its transaction at this track.
 fn entry_for<E: Copy>(call: &Call<E>, answer: &Answer<E>, track: Track) -> Option<DayEntry>
-    ensures { option_to_list (option_map entry_by result) ≡ entry_for call.now (reply_of answer.now) (track_of track) }
+    ensures { map entry_by (option_to_list result) ≡ entry_for call.now (reply_of answer.now) (track_of track) }
 {
     match (call, answer) {
         (Call::Commit(console), Ok(Accepted::Granted(grant))) => Some(DayEntry {
@@ -40,21 +40,6 @@ fn entry_for<E: Copy>(call: &Call<E>, answer: &Answer<E>, track: Track) -> Optio
         }),
         _ => None,
     }
-}
-
-// Adds what is kept of a call.
-fn keep<E: Copy>(
-    entries: &mut Vec<DayEntry>,
-    call: &Call<E>,
-    answer: &Answer<E>,
-    track: Track,
-) -> Result<(), AllocError>
-    ensures { OnOk result (map entry_by entries.new.items ≡ map entry_by entries.old.items ++ entry_for call.now (reply_of answer.now) (track_of track)) }
-{
-    if let Some(entry) = entry_for(call, answer, track) {
-        entries.push(entry)?;
-    }
-    Ok(())
 }
 
 // The track of the transaction that a call asks to commit. A console above 15 is given some track: the log refuses it.
@@ -80,7 +65,7 @@ fn play<S: Store<E>, E: Copy>(
     for call in calls {
         let track = track_for(log, call);
         let answer = log.call(*call);
-        keep(&mut entries, call, &answer, track)?;
+        entries.extend(entry_for(call, &answer, track))?;
         answers.push(answer)?;
     }
     Ok(Played { answers, entries })

@@ -1,5 +1,8 @@
+pub mod Lines
 pub mod Numbers
-pub mod Pieces
-pub mod Untils
+pub mod Places
 pub mod Ranked
+pub mod Spelled
 pub mod Stretching
+pub mod Untils
+pub mod Words

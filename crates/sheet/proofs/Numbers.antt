@@ -1,20 +1,9 @@
 -- Laws of numerals.
-use Rattle.std.proofs.Common.{◌≡◌, ℕ, zero, suc, ◌+◌, ◌-◌, ◌*◌, ◌<◌, ◌≤◌, true, false, not, ◌&&◌, leb, List, [], ◌∷◌, length, get_or, drop, Some, None, sym, ap, ◌∙◌, subst, arith, le-leb, leb-true}
+use Rattle.std.proofs.Common.{◌≡◌, ℕ, ◌+◌, ◌-◌, ◌*◌, ◌<◌, ◌≤◌, true, false, not, leb, List, [], ◌∷◌, length, get_or, drop, Some, None, sym, ap, ◌∙◌, subst, arith, le-leb}
 use borrow.Author.Tests.{lt-leb}
 use Rattle.std.proofs.lemmas.List.{at_drop_more, at_drop_all}
-use Rattle.std.proofs.lemmas.Bool.{and_parts, cond-true, cond-false, and_right, and_from}
-use Rattle.sheet.specs.Numerals.{is_digit, all_digits, value_from, spare_zero, numeral}
-
-pub digits_more : (xs : List ℕ) (i : ℕ) → i < length xs → true ≡ is_digit (get_or xs i 0) → all_digits (drop (i + 1) xs) ≡ all_digits (drop i xs)
-digits_more xs i h t = sym (at_drop_more all_digits xs i 0 h ∙ ap (λ v. v && all_digits (drop (i + 1) xs)) (sym t))
-
-pub digits_fails : (xs : List ℕ) (i : ℕ) → i < length xs → false ≡ is_digit (get_or xs i 0) → all_digits (drop i xs) ≡ false
-digits_fails xs i h t = at_drop_more all_digits xs i 0 h ∙ ap (λ v. v && all_digits (drop (i + 1) xs)) (sym t)
-
-pub digits_at : (xs : List ℕ) (i : ℕ) → all_digits xs ≡ true → i < length xs → (48 ≤ get_or xs i 0) × (get_or xs i 0 ≤ 57)
-digits_at [] i d h = absurd (omega arith)
-digits_at (x ∷ xs) zero d h = let p = and_parts _ _ (and_parts _ _ d).0 in (leb-true _ _ p.0, leb-true _ _ p.1)
-digits_at (x ∷ xs) (suc i) d h = digits_at xs i (and_parts _ _ d).1 (omega arith)
+use Rattle.std.proofs.lemmas.Bool.{cond-true, cond-false, and_right, and_from}
+use Rattle.sheet.specs.Numerals.{all_digits, value_from, spare_zero, numeral}
 
 pub value_ge : (xs : List ℕ) (n : ℕ) → n ≤ value_from n xs
 value_ge [] n = omega arith
@@ -30,6 +19,13 @@ value_done xs i n h = at_drop_all (value_from n) xs i h
 pub too_large : (xs : List ℕ) → 4294967295 < value_from 0 xs → None ≡ numeral xs
 too_large xs h =
     sym (cond-false _ _ _ (and_right (all_digits xs) _ (and_right (not (spare_zero xs)) _ (lt-leb _ _ h))))
+
+-- the same, seen at a digit
+pub too_large_from : (xs : List ℕ) (i n : ℕ) → i < length xs → 4294967295 < n * 10 + (get_or xs i 0 - 48) → value_from n (drop i xs) ≡ value_from 0 xs → None ≡ numeral xs
+too_large_from xs i n l h e =
+    let ge = value_ge (drop (i + 1) xs) (n * 10 + (get_or xs i 0 - 48)) in
+    let step = value_more xs i n l in
+    too_large xs (omega arith)
 
 pub is_number : (xs : List ℕ) (n : ℕ) → true ≡ all_digits xs → false ≡ spare_zero xs → n ≡ value_from 0 xs → n ≤ 4294967295 → Some n ≡ numeral xs
 is_number xs n d z e h =

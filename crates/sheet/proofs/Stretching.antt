@@ -1,5 +1,6 @@
 -- Stretches of lines, played on one log, print what the lines print one by one.
-use Rattle.std.proofs.Common.{◌≡◌, ℕ, Bool, true, false, cond, List, [], ◌∷◌, ◌++◌, map, is_some, Some, None, Ok, Err, Option, sym, refl, ap, ◌∙◌, subst, ap₂, append_assoc, append-nil, arith}
+use Rattle.std.proofs.Common.{◌≡◌, ℕ, suc, ◌+◌, length, not, Bool, true, false, cond, List, [], ◌∷◌, ◌++◌, map, is_some, Some, None, Ok, Err, Option, sym, refl, ap, ◌∙◌, ap₂, append_assoc, append-nil, arith}
+use Rattle.std.specs.List.{filter_map, cons_option, position_or_len}
 use Rattle.std.specs.Option.{option_map}
 use Rattle.store.specs.Meaning.{Rules}
 use Rattle.store.specs.Refusals.{bad_table}
@@ -12,9 +13,10 @@ use Rattle.sheet.specs.declared.request.Request.TheVariants.{Open, Call}
 use Rattle.sheet.specs.declared.response.Success.TheVariants.{Done}
 use Rattle.sheet.specs.Answers.{Item, Response, OpenLog, Log, rules_of, fresh, after_call, replied, accepted, answered, responses_of, log_after}
 use Rattle.sheet.specs.Faults.{no_log, passed}
-use Rattle.sheet.specs.Stretches.{Final, final_of, sizes_of, Opens, until_open, from_open, calls_in, beside}
+use Rattle.sheet.specs.Stretches.{Final, final_of, sizes_of, opens, Opens, until_open, from_open, call_in, calls_in, beside}
 use Rattle.sheet.specs.Printing.{stamps_by_rank}
-use Rattle.sheet.proofs.Untils.{calm, until_from}
+use Rattle.std.proofs.lemmas.List.{take-append-drop}
+use Rattle.sheet.proofs.Untils.{all_before, calm}
 
 -- one part of the lines after another
 pub responses_append : (s : Log) (is js : List Item) → responses_of s (is ++ js) ≡ responses_of s is ++ responses_of (log_after s is) js
@@ -68,18 +70,17 @@ played_one (Ok (Call c)) is e rest (Some s) =
     let next = rest (Some (after_call s c)) in
     (ap (λ l. replied (step s.rules s.state c).0 ∷ l) next.0, next.1 ∙ ap Some (left_more s c (calls_in is)))
 
-until_played : (is : List Item) (s : Log) → Played (until_open is) s
-until_played [] None = (refl, refl)
-until_played [] (Some s) = (refl, ap Some (left_none s))
-until_played (i ∷ is) s = go (is_some (sizes_of i)) refl (λ u. until_played is u) s
+all_played : (is : List Item) (s : Log) → position_or_len opens is ≡ length is → Played is s
+all_played [] None q = (refl, refl)
+all_played [] (Some s) q = (refl, ap Some (left_none s))
+all_played (i ∷ is) s q = go (opens i) refl q (all_played is)
   where
-    go : (t : Bool) → is_some (sizes_of i) ≡ t → ((s : Log) → Played (until_open is) s) → (s : Log) → Played (cond t [] (i ∷ until_open is)) s
-    go true e rest None = (refl, refl)
-    go true e rest (Some s) = (refl, ap Some (left_none s))
-    go false e rest s = played_one i (until_open is) e rest s
+    go : (t : Bool) → opens i ≡ t → cond (not t) (1 + position_or_len opens is) 0 ≡ suc (length is) → ((u : Log) → position_or_len opens is ≡ length is → Played is u) → Played (i ∷ is) s
+    go true e q rest = absurd (omega arith)
+    go false e q rest = played_one i is e (λ u. rest u (omega arith)) s
 
 pub played : (is : List Item) (s : Log) → until_open is ≡ is → Played is s
-played is s q = subst (λ l. Played l s) q (until_played is s)
+played is s q = all_played is s (all_before is q)
 
 -- a stretch from an accepted open on: what the log answered, beside what it was not asked
 module _ (rules : Rules) (size room : ℕ) (is : List Item) (calm : until_open is ≡ is) (calls : List (certifier.Call ℕ)) (asked : calls ≡ calls_in is) where
@@ -104,10 +105,10 @@ module _ (rules : Rules) (size room : ℕ) (is : List Item) (calm : until_open i
 -- lines cut at the next accepted open
 module _ (is front back : List Item) (f : front ≡ until_open is) (b : back ≡ from_open is) where
   split_responses : (s : Log) → responses_of s is ≡ responses_of s front ++ responses_of (log_after s front) back
-  split_responses s = ap (responses_of s) (sym (until_from is)) ∙ responses_append s (until_open is) (from_open is) ∙ (λ i. responses_of s (sym f i) ++ responses_of (log_after s (sym f i)) (sym b i))
+  split_responses s = ap (responses_of s) (sym (take-append-drop (position_or_len opens is) is)) ∙ responses_append s (until_open is) (from_open is) ∙ (λ i. responses_of s (sym f i) ++ responses_of (log_after s (sym f i)) (sym b i))
 
   split_log : (s : Log) → log_after s is ≡ log_after (log_after s front) back
-  split_log s = ap (log_after s) (sym (until_from is)) ∙ after_append s (until_open is) (from_open is) ∙ (λ i. log_after (log_after s (sym f i)) (sym b i))
+  split_log s = ap (log_after s) (sym (take-append-drop (position_or_len opens is) is)) ∙ after_append s (until_open is) (from_open is) ∙ (λ i. log_after (log_after s (sym f i)) (sym b i))
 
   -- the lines before any log is open
   pub before_responses : responses_of None is ≡ beside front [] ++ responses_of None back
@@ -127,3 +128,8 @@ module _ (is front back : List Item) (f : front ≡ until_open is) (b : back ≡
 
     pub turn_log : log_after s all ≡ log_after (log_after (Some (fresh (rules_of k) r l)) front) back
     turn_log = ap (log_after s) o.0 ∙ ap (λ t. log_after (answer t).1 is) o.1 ∙ split_log (Some (fresh (rules_of k) r l))
+
+-- the calls of lines, as the code finds them
+pub calls_found : {X : Type 0} (g : X → Item) (xs : List X) → calls_in (map g xs) ≡ filter_map (λ x. call_in (g x)) xs
+calls_found g [] = refl
+calls_found g (x ∷ xs) = ap (cons_option (call_in (g x))) (calls_found g xs)

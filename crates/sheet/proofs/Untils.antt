@@ -1,71 +1,36 @@
 -- The lines before an accepted open, and those from it on.
-use Rattle.std.proofs.Common.{◌≡◌, ℕ, ◌+◌, ◌<◌, ◌≤◌, Bool, true, false, cond, List, [], ◌∷◌, ◌++◌, map, length, get_or, take, drop, is_some, None, Ok, Result, sym, refl, ap, ◌∙◌, arith}
-use Rattle.std.proofs.lemmas.List.{at_drop_more}
-use Rattle.sheet.specs.declared.fault.Fault.{Fault}
-use Rattle.sheet.specs.declared.request.Request.{Request}
-use Rattle.sheet.specs.declared.request.LogKind.TheVariants.{Newest}
-use Rattle.sheet.specs.declared.request.Request.TheVariants.{Open}
+use Rattle.std.proofs.Common.{◌≡◌, ◌+◌, ◌≤◌, not, List, [], length, take, drop, get_or, Err, sym, ap, ◌∙◌, arith, length-take, length-drop}
+use Rattle.std.specs.List.{position_or_len}
+use Rattle.std.proofs.lemmas.List.{take_all, get_or-drop, get_or-take}
+use Rattle.std.proofs.lemmas.List.Sums.{prefix_len-le-length, position_or_len_is, fails_before_first, passes_at_first}
 use Rattle.sheet.specs.Answers.{Item}
-use Rattle.sheet.specs.Faults.{told}
-use Rattle.sheet.specs.Stretches.{sizes_of, opening, until_open, from_open}
+use Rattle.sheet.specs.Faults.{no_log}
+use Rattle.sheet.specs.Stretches.{opens, until_open, from_open}
 
--- how far the until_open lines go, from a place on: one more, or none
-pub until_at : (items : List (Result Request Fault)) (i : ℕ) (b : Bool) → i < length items → b ≡ is_some (sizes_of (told (get_or items i (Ok (Open 0 0 Newest)))))
-    → length (until_open (map told (drop i items))) ≡ length (cond b [] (told (get_or items i (Ok (Open 0 0 Newest))) ∷ until_open (map told (drop (i + 1) items))))
-until_at items i b h e =
-    at_drop_more (λ l. length (until_open (map told l))) items i (Ok (Open 0 0 Newest)) h
-    ∙ ap (λ t. length (cond {A = List Item} t [] (told (get_or items i (Ok (Open 0 0 Newest))) ∷ until_open (map told (drop (i + 1) items))))) (sym e)
+pub place_within : (is : List Item) → position_or_len opens is ≤ length is
+place_within is = prefix_len-le-length (λ i. not (opens i)) is
 
-pub until_short : (is : List Item) → length (until_open is) ≤ length is
-until_short [] = omega arith
-until_short (i ∷ is) =
-    let h = until_short is in
-    elim (is_some (sizes_of i)) as (λ t. length (cond {A = List Item} t [] (i ∷ until_open is)) ≤ length (i ∷ is)) [ true ↦ omega arith | false ↦ omega arith ]
+-- of lines none of which opens a log, all stand before the first that does
+pub all_before : (is : List Item) → until_open is ≡ is → position_or_len opens is ≡ length is
+all_before is q = omega (arith, place_within is, length-take (position_or_len opens is) is, ap length q)
 
-pub take_until : (is : List Item) → take (length (until_open is)) is ≡ until_open is
-take_until [] = refl
-take_until (i ∷ is) =
-    elim (is_some (sizes_of i)) as (λ t. take (length (cond {A = List Item} t [] (i ∷ until_open is))) (i ∷ is) ≡ cond t [] (i ∷ until_open is)) [ true ↦ refl | false ↦ ap (λ l. i ∷ l) (take_until is) ]
-
-pub drop_until : (is : List Item) → drop (length (until_open is)) is ≡ from_open is
-drop_until [] = refl
-drop_until (i ∷ is) =
-    elim (is_some (sizes_of i)) as (λ t. drop (length (cond {A = List Item} t [] (i ∷ until_open is))) (i ∷ is) ≡ cond t (i ∷ is) (from_open is)) [ true ↦ refl | false ↦ drop_until is ]
-
-pub until_from : (is : List Item) → until_open is ++ from_open is ≡ is
-until_from [] = refl
-until_from (i ∷ is) =
-    elim (is_some (sizes_of i)) as (λ t. cond {A = List Item} t [] (i ∷ until_open is) ++ cond t (i ∷ is) (from_open is) ≡ i ∷ is) [ true ↦ refl | false ↦ ap (λ l. i ∷ l) (until_from is) ]
-
--- until_open lines stay so, and none is until_open from an accepted open on
-until_until : (is : List Item) → until_open (until_open is) ≡ until_open is
-until_until [] = refl
-until_until (i ∷ is) = go (is_some (sizes_of i)) refl (until_until is)
-  where
-    go : (t : Bool) → is_some (sizes_of i) ≡ t → until_open (until_open is) ≡ until_open is → until_open (cond t [] (i ∷ until_open is)) ≡ cond t [] (i ∷ until_open is)
-    go true e h = refl
-    go false e h = ap (λ t. cond {A = List Item} t [] (i ∷ until_open (until_open is))) e ∙ ap (λ l. i ∷ l) h
-
+-- none of the lines before an accepted open is one
 pub calm : (front is : List Item) → front ≡ until_open is → until_open front ≡ front
-calm front is f = ap until_open f ∙ until_until is ∙ sym f
+calm front is f =
+    let n = position_or_len opens is in
+    let within = place_within is in
+    let len = length-take n is in
+    let same : position_or_len opens (take n is) ≡ n =
+    position_or_len_is opens (take n is) n (Err no_log) (omega arith) (λ k l. ap opens (get_or-take n is k (Err no_log) l) ∙ fails_before_first opens is k (Err no_log) l) (λ l. absurd (omega arith)) in
+    ap until_open f ∙ ap (λ k. take k (take n is)) same ∙ take_all n (take n is) (omega arith) ∙ sym f
 
+-- no line stands before an accepted open that is the first
 pub until_none : (is : List Item) → until_open (from_open is) ≡ []
-until_none [] = refl
-until_none (i ∷ is) = go (is_some (sizes_of i)) refl (until_none is)
-  where
-    go : (t : Bool) → is_some (sizes_of i) ≡ t → until_open (from_open is) ≡ [] → until_open (cond t (i ∷ is) (from_open is)) ≡ []
-    go true e h = ap (λ t. cond {A = List Item} t [] (i ∷ until_open is)) e
-    go false e h = h
-
--- where no line is until_open and the first opens nothing, there is none
-pub none_left : (is : List Item) → until_open is ≡ [] → opening is ≡ None → is ≡ []
-none_left [] q o = refl
-none_left (i ∷ is) q o =
-    let more : until_open (i ∷ is) ≡ i ∷ until_open is = ap (λ x. cond {A = List Item} (is_some x) [] (i ∷ until_open is)) o in
-    let z : ◌≡◌ {A = ℕ} 0 1 = cc in absurd (omega arith)
-
-pub from_short : (is : List Item) → length (from_open is) ≤ length is
-from_short [] = omega arith
-from_short (i ∷ is) =
-    let h = from_short is in
-    elim (is_some (sizes_of i)) as (λ t. length (cond {A = List Item} t (i ∷ is) (from_open is)) ≤ length (i ∷ is)) [ true ↦ omega arith | false ↦ omega arith ]
+until_none is =
+    let n = position_or_len opens is in
+    let len = length-drop n is in
+    let place : n + 0 ≡ n = omega arith in
+    let at : get_or (drop n is) 0 (Err no_log) ≡ get_or is n (Err no_log) = get_or-drop n is 0 (Err no_log) ∙ ap (λ k. get_or is k (Err no_log)) place in
+    let first : position_or_len opens (drop n is) ≡ 0 =
+    position_or_len_is opens (drop n is) 0 (Err no_log) (omega arith) (λ k l. absurd (omega arith)) (λ l. ap opens at ∙ passes_at_first opens is (Err no_log) (omega arith)) in
+    ap (λ k. take k (drop n is)) first

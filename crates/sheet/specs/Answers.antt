@@ -12,7 +12,7 @@ use Rattle.sheet.specs.declared.request.LogKind.TheVariants.{Newest, Snapshot}
 use Rattle.sheet.specs.declared.request.Request.{Request}
 use Rattle.sheet.specs.declared.request.Request.TheVariants.{Open, Call}
 use Rattle.sheet.specs.declared.response.Success.{Success}
-use Rattle.sheet.specs.declared.response.Success.TheVariants.{Done, One, Three, Version, Own}
+use Rattle.sheet.specs.declared.response.Success.TheVariants.{Done, One, Granted, Version, Own}
 use Rattle.sheet.specs.Faults.{Flaw, no_log, passed}
 
 -- what a line comes to: a request, or its fault
@@ -55,9 +55,9 @@ after_call s c = record {
 abbrev pub replied : Reply ℕ → Response
 replied (begun b) = Ok (One b)
 replied (own e) = Ok (Own e)
-replied (saw v) = Ok (Version v.number v.entry)
+replied (saw v) = Ok (Version v)
 replied (overwrites n) = Ok (One n)
-replied (granted g) = Ok (Three g.stamp g.low g.high)
+replied (granted g) = Ok (Granted g)
 replied dropped = Ok Done
 replied (refused c) = Err (passed c)
 

@@ -1,20 +1,10 @@
 -- A sheet cut into lines, and a line into words.
 use Rattle.std.specs.Prelude.{ℕ, ◌+◌, cond, List, [], ◌∷◌, length, ◌==◌}
-
--- what stands before the first s
-abbrev pub fore : ℕ → List ℕ → List ℕ
-fore s [] = []
-fore s (b ∷ bs) = cond (b == s) [] (b ∷ fore s bs)
-
--- b put in front of the first piece
-abbrev pub onto : ℕ → List (List ℕ) → List (List ℕ)
-onto b [] = (b ∷ []) ∷ []
-onto b (w ∷ ws) = (b ∷ w) ∷ ws
+use Rattle.std.specs.List.{slice_split}
 
 -- the pieces between one s and the next
 abbrev pub pieces : ℕ → List ℕ → List (List ℕ)
-pieces s [] = [] ∷ []
-pieces s (b ∷ bs) = cond (b == s) ([] ∷ pieces s bs) (onto b (pieces s bs))
+pieces s bs = slice_split (λ b. b == s) bs
 
 -- words, each with its column
 abbrev pub Placed : Type 0

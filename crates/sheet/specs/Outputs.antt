@@ -17,13 +17,13 @@ abbrev pub day_of : Log → List ℕ
 day_of None = []
 day_of (Some s) = file_bytes s.size (commits_of (entries_in (summary_of s.size s.history).done))
 
--- what a sheet prints; one of more than 32,768 bytes is not read
-abbrev pub output_of : List ℕ → List ℕ
-output_of sheet = cond (nat_lt 32768 (length sheet)) (codes "long" ++ newline) (items_text (map request_of (lines_of sheet)))
-
 -- a sheet of more than 32,768 bytes is not read
 abbrev pub unless_long : List ℕ → (List Item → List ℕ) → List ℕ
 unless_long sheet f = cond (nat_lt 32768 (length sheet)) (codes "long" ++ newline) (f (map request_of (lines_of sheet)))
+
+-- what a sheet prints
+abbrev pub output_of : List ℕ → List ℕ
+output_of sheet = unless_long sheet items_text
 
 -- the day file of the log that is open at the end of a sheet
 abbrev pub file_of : List ℕ → List ℕ

@@ -2,8 +2,9 @@
 use Rattle.std.specs.Prelude.{ℕ, ◌+◌, List, [], ◌∷◌, ◌++◌, Some, None, Ok, Err, codes, decimal, Option}
 use Rattle.certifier.specs.Meaning.{LogState}
 use Rattle.certifier.specs.Ranking.{joined}
+use Rattle.filing.specs.Showing.{numbers_text}
 use Rattle.sheet.specs.declared.response.Success.{Success}
-use Rattle.sheet.specs.declared.response.Success.TheVariants.{Done, One, Three, Version, Own}
+use Rattle.sheet.specs.declared.response.Success.TheVariants.{Done, One, Granted, Version, Own}
 use Rattle.sheet.specs.Answers.{Response, Log}
 use Rattle.sheet.specs.Faults.{Flaw}
 
@@ -11,8 +12,8 @@ use Rattle.sheet.specs.Faults.{Flaw}
 abbrev pub success_text : Success → List ℕ
 success_text Done = codes "ok"
 success_text (One n) = codes "ok " ++ decimal n
-success_text (Three a b c) = codes "ok " ++ (decimal a ++ (codes " " ++ (decimal b ++ (codes " " ++ decimal c))))
-success_text (Version n e) = codes "v " ++ (decimal n ++ (codes " " ++ decimal e))
+success_text (Granted g) = codes "ok " ++ (decimal g.stamp ++ (codes " " ++ (decimal g.low ++ (codes " " ++ decimal g.high))))
+success_text (Version v) = codes "v " ++ (decimal v.number ++ (codes " " ++ decimal v.entry))
 success_text (Own e) = codes "own " ++ decimal e
 
 -- a fault of the line with its column, or a refusal from below
@@ -42,8 +43,7 @@ lines_text n (x ∷ xs) = line_text n x ++ lines_text (n + 1) xs
 
 -- numbers to the end of a line, each after a space
 abbrev pub stamps_text : List ℕ → List ℕ
-stamps_text [] = newline
-stamps_text (n ∷ ns) = (codes " " ++ decimal n) ++ stamps_text ns
+stamps_text ns = numbers_text ns ++ newline
 
 -- the commit stamps of a log by rank
 abbrev pub stamps_by_rank : LogState ℕ → List ℕ

@@ -1,5 +1,6 @@
 -- How the code goes through a sheet: a stretch of lines at a time, each from an accepted open on.
-use Rattle.std.specs.Prelude.{◌≡◌, ℕ, true, cond, List, [], ◌∷◌, ◌++◌, is_some, Some, None, Ok, Err, Option}
+use Rattle.std.specs.Prelude.{◌≡◌, ℕ, Bool, true, cond, drop, List, [], ◌∷◌, is_some, Some, None, Ok, Err, Option}
+use Rattle.std.specs.List.{filter_map, position_or_len, before_first}
 use Rattle.store.specs.Refusals.{bad_table}
 use Rattle.certifier.specs.declared.Call as certifier
 use Rattle.certifier.specs.Entries.{Entry}
@@ -35,29 +36,35 @@ opening (i ∷ is) = sizes_of i
 abbrev pub Opens : List Item → ℕ → ℕ → LogKind → List Item → Type 0
 Opens is r l k ms = (is ≡ Ok (Open r l k) ∷ ms) × (accepted r l ≡ true)
 
+-- whether a line is an accepted open
+abbrev pub opens : Item → Bool
+opens i = is_some (sizes_of i)
+
 -- the lines before the first accepted open
 abbrev pub until_open : List Item → List Item
-until_open [] = []
-until_open (i ∷ is) = cond (is_some (sizes_of i)) [] (i ∷ until_open is)
+until_open is = before_first opens is
 
 -- the lines from it on
 abbrev pub from_open : List Item → List Item
-from_open [] = []
-from_open (i ∷ is) = cond (is_some (sizes_of i)) (i ∷ is) (from_open is)
+from_open is = drop (position_or_len opens is) is
+
+-- the first line is an accepted open, the lines ms stand behind it up to the next, and ns from that on
+abbrev pub Begins : List Item → ℕ → ℕ → LogKind → List Item → List Item → Type 0
+Begins is r l k ms ns = (more : List Item) × Opens is r l k more × (ms ≡ until_open more) × (ns ≡ from_open more)
 
 -- no line opens a log
 abbrev pub NoneOpens : List Item → Type 0
 NoneOpens is = until_open is ≡ is
 
--- the calls among lines
-abbrev pub call_in : Item → List (certifier.Call ℕ)
-call_in (Err f) = []
-call_in (Ok (Open r l k)) = []
-call_in (Ok (Call c)) = c ∷ []
+-- the call of a line, if it makes one
+abbrev pub call_in : Item → Option (certifier.Call ℕ)
+call_in (Err f) = None
+call_in (Ok (Open r l k)) = None
+call_in (Ok (Call c)) = Some c
 
+-- the calls among lines
 abbrev pub calls_in : List Item → List (certifier.Call ℕ)
-calls_in [] = []
-calls_in (i ∷ is) = call_in i ++ calls_in is
+calls_in is = filter_map call_in is
 
 -- what a call is answered to which some answers are left: the first; and where there is none it found no log
 abbrev pub next_of : List Response → Response

@@ -1,26 +1,29 @@
--- What a walk over a line or a sheet has still to give.
-use Rattle.std.specs.Prelude.{◌≡◌, ℕ, ◌+◌, cond, List, [], ◌∷◌, length, drop, Some, None, Option, nat_le}
+-- What a walk over the words of a line has still to give.
+use Rattle.std.specs.Prelude.{◌≡◌, ℕ, ◌-◌, List, [], length, Some, None, Option}
 use Rattle.std.specs.Borrow.{Bor}
-use Rattle.sheet.specs.declared.line.Lines.{Lines}
+use Rattle.std.specs.Iterator.{YieldsFirstBy}
+use Rattle.sheet.specs.declared.line.Word.{Word}
 use Rattle.sheet.specs.declared.line.Words.{Words}
-use Rattle.sheet.specs.Cuts.{Placed, placed, pieces, lines_of}
+use Rattle.sheet.specs.Cuts.{Placed, placed, pieces, behind}
 
--- the words from a place on; past the line's end there is none
-abbrev pub words_from : List ℕ → ℕ → Placed
-words_from line at = cond (nat_le at (length line)) (placed (at + 1) (pieces 32 (drop at line))) []
+-- the words in what is left of a line whose end is before column e
+abbrev pub words_left : ℕ → Option (Bor (List ℕ)) → Placed
+words_left e None = []
+words_left e (Some r) = placed (e - length r.now) (pieces 32 r.now)
 
--- the words to come, and the line that they stand in
+-- the words to come
 abbrev pub to_come : Words → Placed
-to_come w = words_from w.line.now w.at
+to_come w = words_left w.end w.rest
 
-abbrev pub line_of : Words → List ℕ
-line_of w = w.line.now
+-- a word with its column
+abbrev pub word_of : Word → List ℕ × ℕ
+word_of w = (w.bytes.now, w.column)
 
--- the lines to come
-abbrev pub lines_to_come : Lines → List (List ℕ)
-lines_to_come w = lines_of (drop w.at w.sheet.now)
+-- a call of `next` gives the first of the words to come and leaves those behind it, and the line ends where it did
+abbrev pub Gives : Words → Option Word → Words → Type 0
+Gives s r t = YieldsFirstBy word_of to_come s r t × (t.end ≡ s.end)
 
--- the next line, and those behind it
-abbrev pub Stepped : List (List ℕ) → Option (Bor (List ℕ)) → List (List ℕ) → Type 0
-Stepped ls None ms = (ls ≡ []) × (ms ≡ [])
-Stepped ls (Some l) ms = ls ≡ l.now ∷ ms
+-- the words behind the first are left, and the line ends where it did
+pub record Passed (old new : Words) : Type 0 where
+  pub left : to_come new ≡ behind (to_come old)
+  pub end : new.end ≡ old.end

@@ -1,25 +1,33 @@
 // The lines of a sheet.
-ghost use Rattle.std.specs.Prelude.{◌≡◌, ℕ, ◌≤◌, map, length, IfOk};
-ghost use Rattle.sheet.specs.Cuts.{lines_of};
+ghost use Rattle.std.specs.Prelude.{◌≡◌, ℕ, map, IfOk, MatchOption, []};
+ghost use Rattle.sheet.specs.Cuts.{pieces, lines_of};
 ghost use Rattle.sheet.specs.Faults.{told};
 ghost use Rattle.sheet.specs.Requests.{request_of};
 
 use crate::fault::Fault;
-use crate::line::Lines;
 use crate::request::{Request, request_in};
 use std::alloc::{AllocError, Global};
 
 /// What a line comes to: a request, or its fault.
 pub(crate) type Item = Result<Request, Fault>;
 
+// The text that is cut into lines: a sheet without the byte that ends its last line. Without a byte there is no line.
+fn text_of(sheet: &[u8]) -> Option<&[u8]>
+    ensures { MatchOption result (lines_of sheet.now ≡ []) (λ t. lines_of sheet.now ≡ pieces 10 t.now) }
+{
+    match sheet {
+        [] => None,
+        [text @ .., b'\n'] => Some(text),
+        _ => Some(sheet),
+    }
+}
+
 /// What every line of a sheet comes to.
 pub(crate) fn read_lines(heap: Global, sheet: &[u8]) -> Result<Vec<Item>, AllocError>
-    requires { length sheet.now ≤ 32768 }
     ensures { IfOk result (λ v. map told v.items ≡ map request_of (lines_of sheet.now)) }
 {
-    let mut items = Vec::new(heap);
-    for line in Lines::of(sheet) {
-        items.push(request_in(line))?;
-    }
-    Ok(items)
+    let Some(text) = text_of(sheet) else {
+        return Ok(Vec::new(heap));
+    };
+    text.split(|b| *b == b'\n').map(request_in).collect(heap)
 }

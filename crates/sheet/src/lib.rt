@@ -19,7 +19,6 @@ mod play;
 mod print;
 mod request;
 mod response;
-mod token;
 
 // A longer sheet is not read.
 const LIMIT: usize = 32768;
@@ -32,12 +31,10 @@ pub fn answer_sheet(heap: Global, sheet: &[u8]) -> Result<String, AllocError>
     if sheet.len() > LIMIT {
         return String::from_str(heap, "long\n");
     }
-    let items = read_lines(heap, sheet)?;
-    let mut responses = Vec::new(heap);
-    let ending = play(heap, items.as_slice(), &mut responses)?;
+    let played = play(heap, read_lines(heap, sheet)?.as_slice())?;
     let mut text = String::new(heap);
-    print_lines(&mut text, responses.as_slice())?;
-    if let Some(ending) = &ending {
+    print_lines(&mut text, played.responses.as_slice())?;
+    if let Some(ending) = &played.ending {
         print_order(&mut text, ending.stamps.as_slice())?;
     }
     Ok(text)
@@ -51,9 +48,8 @@ pub fn file_sheet(heap: Global, sheet: &[u8]) -> Result<Vec<u8>, AllocError>
     if sheet.len() > LIMIT {
         return Vec::from_slice(heap, b"long\n");
     }
-    let items = read_lines(heap, sheet)?;
-    let mut responses = Vec::new(heap);
-    match play(heap, items.as_slice(), &mut responses)? {
+    let played = play(heap, read_lines(heap, sheet)?.as_slice())?;
+    match &played.ending {
         Some(ending) => write_day(heap, &ending.day),
         None => Ok(Vec::new(heap)),
     }

@@ -1,22 +1,20 @@
-// Walks over the words of a line and over the lines of a sheet.
-ghost use Rattle.std.specs.Prelude.{◌+◌, ◌≤◌, length};
+// The words of a line.
+ghost use Rattle.std.specs.Prelude.{◌<◌, length};
+ghost use Rattle.std.specs.Option.{ForSome};
 
 mod walk;
 
-/// The words of a line from a place on.
+/// A word of a line, with its column.
 #[derive(Clone, Copy)]
-pub(crate) struct Words<'a> {
-    line: &'a [u8],
-    at: usize,
-    ghost short: { length line.now ≤ 32768 },
-    ghost within: { at ≤ length line.now + 1 },
+pub(crate) struct Word<'a> {
+    pub(crate) bytes: &'a [u8],
+    pub(crate) column: usize,
 }
 
-/// The lines of a sheet from a place on.
+/// The words of a line that are to come: what is left of the line, and the column past its end.
 #[derive(Clone, Copy)]
-pub(crate) struct Lines<'a> {
-    sheet: &'a [u8],
-    at: usize,
-    ghost short: { length sheet.now ≤ 32768 },
-    ghost within: { at ≤ length sheet.now + 1 },
+pub(crate) struct Words<'a> {
+    rest: Option<&'a [u8]>,
+    pub(crate) end: usize,
+    ghost within: { ForSome rest (λ r. length r.now < end) },
 }

@@ -1,67 +1,60 @@
-// Which lines open a log.
-ghost use Rattle.std.specs.Prelude.{◌≡◌, map, length, None, MatchOption};
-ghost use Rattle.sheet.specs.Answers.{accepted};
+// Which lines open a log, and the stretches that they begin.
+ghost use Rattle.std.specs.Prelude.{◌≡◌, ℕ, map, None, MatchOption};
+ghost use Rattle.std.specs.List.{position_or_len};
+ghost use Rattle.std.specs.Option.{option_map};
 ghost use Rattle.sheet.specs.Faults.{told};
-ghost use Rattle.sheet.specs.Stretches.{sizes_of, opening, Opens, until_open, from_open};
+ghost use Rattle.sheet.specs.Stretches.{sizes_of, opening, opens, until_open, from_open, NoneOpens, Begins};
 
 use crate::items::Item;
 use crate::request::{LogKind, Request};
+use store::TableSize;
 
-/// An accepted open: the number of records and of places of its log, the kind of its store, and the lines behind it.
+/// The lines from an accepted open on: how large its log is and the kind of its store, the lines up to the next accepted
+/// open, and those from it on.
 #[derive(Clone, Copy)]
-pub(crate) struct Opening<'a> {
-    pub(crate) size: u32,
-    pub(crate) room: u32,
+pub(crate) struct Stretch<'a> {
+    pub(crate) size: TableSize,
     pub(crate) kind: LogKind,
+    pub(crate) lines: &'a [Item],
     pub(crate) behind: &'a [Item],
+    ghost one_log: { NoneOpens (map told lines.now) },
 }
 
-fn accepts(size: u32, room: u32) -> bool
-    ensures { result ≡ accepted size room }
-{
-    1 <= size && size <= 256 && size <= room && room <= 2048
-}
-
-// The size, the room and the kind of an open that is accepted.
-fn sizes_in(item: &Item) -> Option<(u32, u32, LogKind)>
-    ensures { result ≡ sizes_of (told item.now) }
+// The size and the kind of an open that is accepted.
+fn size_in(item: &Item) -> Option<(TableSize, LogKind)>
+    ensures { option_map (λ p. (p.0.records, p.0.places, p.1)) result ≡ sizes_of (told item.now) }
 {
     match item {
-        Ok(Request::Open(size, room, kind)) => {
-            if accepts(*size, *room) {
-                Some((*size, *room, *kind))
-            } else {
-                None
-            }
+        Ok(Request::Open(records, places, kind)) => {
+            Some((TableSize::new(*records, *places).ok()?, *kind))
         }
         Ok(Request::Call(_)) | Err(_) => None,
     }
 }
 
-/// The log that the first line opens, if it does.
-pub(crate) fn opening_of(items: &[Item]) -> Option<Opening<'_>>
-    ensures { MatchOption result (opening (map told items.now) ≡ None) (λ o. Opens (map told items.now) o.size o.room o.kind (map told o.behind.now)) }
+/// The stretch that the first line begins, if it is an accepted open.
+pub(crate) fn stretch_of(items: &[Item]) -> Option<Stretch<'_>>
+    ensures { MatchOption result (opening (map told items.now) ≡ None) (λ s. Begins (map told items.now) s.size.records s.size.places s.kind (map told s.lines.now) (map told s.behind.now)) }
 {
-    let (first, behind) = items.split_first()?;
-    let (size, room, kind) = sizes_in(first)?;
-    Some(Opening {
+    let (first, more) = items.split_first()?;
+    let (size, kind) = size_in(first)?;
+    let (lines, behind) = split_at_open(more);
+    Some(Stretch {
         size,
-        room,
         kind,
+        lines,
         behind,
     })
 }
 
 // How many lines stand before the first accepted open.
 fn until_open(items: &[Item]) -> usize
-    ensures { result ≡ length (until_open (map told items.now)) }
+    ensures { result ≡ position_or_len opens (map told items.now) }
 {
-    for (i, item) in items.iter().enumerate() {
-        if sizes_in(item).is_some() {
-            return i;
-        }
-    }
-    items.len()
+    items
+        .iter()
+        .position(|item| size_in(item).is_some())
+        .unwrap_or(items.len())
 }
 
 /// The lines before the first accepted open, and those from it on.

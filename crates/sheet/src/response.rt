@@ -1,27 +1,26 @@
 // What a line is answered.
-ghost use Rattle.std.specs.Prelude.{◌≡◌, Some};
-ghost use Rattle.runs.specs.Outcomes.{reply_of};
+ghost use Rattle.std.specs.Prelude.{◌≡◌, Some, Ok};
+ghost use Rattle.certifier.specs.Logs.{accepted_reply, reply_of};
 ghost use Rattle.sheet.specs.Answers.{replied};
-ghost use Rattle.sheet.specs.Faults.{told_by, told, passed};
+ghost use Rattle.sheet.specs.Faults.{told};
 ghost use Rattle.sheet.specs.Printing.{success_text};
-ghost use Rattle.certifier.specs.Refusals.{code_of};
 
 use crate::fault::Fault;
-use certifier::LogRefusal;
-use runs::Answer;
+use certifier::{Accepted, Answer, Grant};
 use std::fmt;
+use store::{Seen, Version};
 
 /// What a line prints that is not refused.
 #[derive(Clone, Copy)]
-pub(crate) enum Success {
+pub enum Success {
     /// nothing more is to say
     Done,
     /// a begin stamp, or the number of a version that will be overwritten
     One(u32),
-    /// a commit's stamp, low mark and high mark
-    Three(u32, u32, u32),
-    /// the number of a version, and its entry
-    Version(u32, u32),
+    /// what a commit is granted
+    Granted(Grant),
+    /// a version that was read
+    Version(Version<u32>),
     /// the console's own entry
     Own(u32),
 }
@@ -36,29 +35,25 @@ impl fmt::Display for Success {
         match self {
             Success::Done => write!(f, "ok"),
             Success::One(n) => write!(f, "ok {n}"),
-            Success::Three(a, b, c) => write!(f, "ok {a} {b} {c}"),
-            Success::Version(n, entry) => write!(f, "v {n} {entry}"),
+            Success::Granted(Grant { stamp, low, high }) => write!(f, "ok {stamp} {low} {high}"),
+            Success::Version(Version { number, entry, .. }) => write!(f, "v {number} {entry}"),
             Success::Own(entry) => write!(f, "own {entry}"),
         }
     }
 }
 
-// An answer of the log, as what it grants or why it refuses.
-fn granted(answer: Answer<u32>) -> Result<Success, LogRefusal>
-    ensures { told_by (λ e. passed (code_of e)) result ≡ replied (reply_of answer) }
-{
-    match answer {
-        Answer::Begun(stamp) => Ok(Success::One(u32::from(stamp))),
-        Answer::Own(entry) => Ok(Success::Own(entry)),
-        Answer::Saw(version) => Ok(Success::Version(version.number, version.entry)),
-        Answer::Overwrites(version) => Ok(Success::One(version)),
-        Answer::Granted(grant) => Ok(Success::Three(
-            u32::from(grant.stamp),
-            u32::from(grant.low),
-            u32::from(grant.high),
-        )),
-        Answer::Dropped => Ok(Success::Done),
-        Answer::Refused(refusal) => Err(refusal),
+impl From<Accepted<u32>> for Success {
+    ghost from_gives = { λ a x. Ok x ≡ replied (accepted_reply a) };
+
+    fn from(accepted: Accepted<u32>) -> Success {
+        match accepted {
+            Accepted::Begun(stamp) => Success::One(u32::from(stamp)),
+            Accepted::Seen(Seen::Own(entry)) => Success::Own(entry),
+            Accepted::Seen(Seen::Committed(version)) => Success::Version(version),
+            Accepted::Overwrites(version) => Success::One(version),
+            Accepted::Granted(grant) => Success::Granted(grant),
+            Accepted::Dropped => Success::Done,
+        }
     }
 }
 
@@ -66,6 +61,5 @@ fn granted(answer: Answer<u32>) -> Result<Success, LogRefusal>
 pub(crate) fn response_to(answer: Answer<u32>) -> Response
     ensures { told result ≡ replied (reply_of answer) }
 {
-    let success = granted(answer)?;
-    Ok(success)
+    Ok(answer?.into())
 }

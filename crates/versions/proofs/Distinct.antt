@@ -1,50 +1,31 @@
 -- Distinct numbers below n are no more than n.
-use Rattle.std.proofs.Common.{◌≡◌, ℕ, zero, suc, ◌-◌, ◌<◌, ◌≤◌, cond, eqb, ltb, List, length, get_or, sym, refl, ap, ◌∙◌, inl, inr, arith}
-use Rattle.std.proofs.lemmas.Bool.{cond-true, cond-false, cases_eq, cases_lt, lt-ltb, le-ltb, eq-eqb, ne_eqb}
-
--- g without the value v: what is above it comes one down
-abbrev without : ℕ → (ℕ → ℕ) → ℕ → ℕ
-without v g i = cond (ltb v (g i)) (g i - 1) (g i)
-
--- where each j below m is the image of some i below n, m is at most n
-covered : (n m : ℕ) (g : ℕ → ℕ) → ((j : ℕ) → j < m → (i : ℕ) × (i < n) × (g i ≡ j)) → m ≤ n
-covered n zero g h = omega arith
-covered zero (suc m) g h = let w = h 0 (omega arith) in absurd (let l = w.1 in omega arith)
-covered (suc n) (suc m) g h =
-    elim (cases_lt (g n) (suc m)) [
-      | inl inside ↦ (let r = covered n m (without (g n) g) (λ j l. fewer inside j l) in omega arith)
-      | inr outside ↦ (let r = covered n (suc m) g (λ j l. still outside j l (h j l)) in omega arith)
-    ]
-  where
-    still : suc m ≤ g n → (j : ℕ) → j < suc m → (i : ℕ) × (i < suc n) × (g i ≡ j) → (i : ℕ) × (i < n) × (g i ≡ j)
-    still out j l w =
-        let i = w.0 in let k = w.1 in let e = w.2 in
-        let ne : i ≡ n → ⊥ = λ q. (let z = ap g q in omega arith) in
-        (i, omega arith, e)
-
-    fewer : g n < suc m → (j : ℕ) → j < m → (i : ℕ) × (i < n) × (without (g n) g i ≡ j)
-    fewer ins j l =
-        elim (cases_lt j (g n)) [
-          | inl below ↦
-              (let w = h j (omega arith) in
-              let i = w.0 in let k = w.1 in let e = w.2 in
-              let ne : i ≡ n → ⊥ = λ q. (let z = ap g q in omega arith) in
-              (i, omega arith, cond-false _ _ _ (le-ltb (g n) (g i) (omega arith)) ∙ e))
-          | inr above ↦
-              (let w = h (suc j) (omega arith) in
-              let i = w.0 in let k = w.1 in let e = w.2 in
-              let ne : i ≡ n → ⊥ = λ q. (let z = ap g q in omega arith) in
-              (i, omega arith, cond-true _ _ _ (lt-ltb (g n) (g i) (omega arith)) ∙ omega arith))
-        ]
+use Rattle.std.proofs.Common.{◌≡◌, ℕ, ◌<◌, false, eqb, List, [], ◌∷◌, ◌++◌, length, get_or, sym, ap, ◌∙◌, inl, inr, arith}
+use Rattle.std.proofs.lemmas.Bool.{eqb-true, ne_eqb, cases_Bool}
+use Rattle.std.proofs.lemmas.Cmp.{nat_eq_equiv}
+use Rattle.std.proofs.lemmas.List.{length_push, get_or_default}
+use Rattle.std.proofs.lemmas.List.Elements.{All-push, All-contains}
+use Rattle.std.proofs.lemmas.Map.Keys.{IsDistinct-from_apart, IsDistinct-push}
+use Rattle.std.proofs.lemmas.Map.Views.{Contains-from_any}
+use Rattle.std.proofs.lemmas.Map.Steps.{length-le_from_distinct_below}
+use Rattle.std.specs.List.{All, IsDistinct, list_any}
 
 -- numbers below n that g leads back to their places, and one more that is not among them
-pub room_for_more : (n r : ℕ) (xs : List ℕ) (g : ℕ → ℕ) → ((j : ℕ) → j < length xs → get_or xs j 0 < n) → ((j : ℕ) → j < length xs → g (get_or xs j 0) ≡ j)
+pub room_for_more : (n r : ℕ) (xs : List ℕ) (g : ℕ → ℕ) → All (λ x. x < n) xs → ((j : ℕ) → j < length xs → g (get_or xs j 0) ≡ j)
     → r < n → ((j : ℕ) → j < length xs → get_or xs j 0 ≡ r → ⊥) → length xs < n
 room_for_more n r xs g below back l none =
-    let m = length xs in
-    let h : ℕ → ℕ = λ i. cond (eqb i r) m (g i) in
-    let c = covered n (suc m) h (λ j k. elim (cases_eq j m) [
-      | inl last ↦ (r, l, cond-true _ _ _ (eq-eqb r r refl) ∙ sym last)
-      | inr ne ↦ (let in' : j < m = omega arith in (get_or xs j 0, below j in', cond-false _ _ _ (ne_eqb (get_or xs j 0) r (none j in')) ∙ back j in'))
-    ]) in
+    let P : ℕ → Type 0 = λ x. x < n in
+    let distinct : IsDistinct eqb xs = IsDistinct-from_apart eqb xs (λ i j d low high. ne_eqb _ _ (λ e.
+    (let a = back i (omega arith) in
+    let b = back j high in
+    let x = get_or_default xs i d 0 (omega arith) in
+    let y = get_or_default xs j d 0 high in
+    let z = ap g (sym x ∙ e ∙ y) in
+    omega arith))) in
+    let new : list_any (eqb r) xs ≡ false = elim (cases_Bool (list_any (eqb r) xs)) [
+      | inl yes' ↦ (let c = Contains-from_any {eq = eqb} (λ x y h. eqb-true x y h) r xs yes' in absurd (none c.0 c.1 (sym (get_or_default xs c.0 r 0 c.1) ∙ c.2)))
+      | inr no' ↦ no'
+    ] in
+    let all = All-push P xs r below l in
+    let most = length-le_from_distinct_below (xs ++ r ∷ []) n (IsDistinct-push nat_eq_equiv xs r distinct new) (λ q h. All-contains P _ q all (Contains-from_any {eq = eqb} (λ x y h. eqb-true x y h) q _ h)) in
+    let long = length_push xs r in
     omega arith

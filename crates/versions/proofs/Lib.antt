@@ -4,5 +4,4 @@ pub mod Picks
 pub mod Backs
 pub mod Kepts
 pub mod Totals
-pub mod Writes
 pub mod Starts

@@ -1,182 +1,26 @@
--- A store as it is opened: its table row by row, its consoles one by one.
-use Rattle.std.proofs.Common.{◌≡◌, ℕ, zero, suc, ◌+◌, ◌-◌, ◌<◌, ◌≤◌, List, [], ◌∷◌, ◌++◌, map, length, get_or, Some, None, vec_items, vec_capacity, Option, sym, refl, ap, ◌∙◌, subst, inl, inr, add-zero, add-one, arith}
-use Rattle.std.proofs.lemmas.List.{get_or_append_left, get_or_push, length_push, map_push, get_or_past}
-use Rattle.std.proofs.lemmas.Bool.{cases_eq, cases_order}
-use Rattle.store.specs.declared.Version.{Version}
-use Rattle.versions.specs.declared.place.Place.{Place}
-use Rattle.versions.specs.declared.place.Place.TheVariants.{Free, Used}
+-- A store as it is opened: its table all at once, its consoles one by one.
+use Rattle.std.proofs.Common.{◌≡◌, ℕ, nat_lt, zero, suc, ◌+◌, ◌-◌, ◌<◌, ◌≤◌, List, [], ◌∷◌, ◌++◌, map, length, get_or, Some, None, Option, vec_items, vec_capacity, sym, refl, ap, ◌∙◌, inl, inr, add-one, arith}
+use Rattle.std.proofs.lemmas.Bool.{cases_lt, lt-ltb, le-ltb}
+use Rattle.std.proofs.lemmas.List.{length_push, map_push, get_or_past}
+use Rattle.std.proofs.lemmas.List.Elements.{All-push}
+use Rattle.std.proofs.lemmas.List.FromFn.{length-range_with_len, get_or-range_with_len, length-map-range_with_len, get_or-map-range_with_len}
+use Rattle.std.specs.List.{range_with_len}
+use Rattle.std.specs.Bool.{then_some}
+use Rattle.store.specs.Meaning.{versions_in, firsts}
+use Rattle.store.proofs.Lists.{firsts_many}
+use Rattle.versions.specs.declared.row.Row.{Row}
+use Rattle.versions.specs.Places.{depth_of, link_of, record_of, place_at, link, chain_from, chains_from}
+use Rattle.versions.proofs.Ways.{TableKept, walk_none, chain_used}
 use Rattle.versions.specs.declared.session.Session.{Session}
-use Rattle.versions.specs.declared.session.Hold.{Hold}
-use Rattle.store.specs.Meaning.{versions_in, firsts, shut_all, pending_in, pending_list}
-use Rattle.versions.specs.Places.{depth_of, link_of, record_of, spot_of, version_of, place_at, depth, link, walk, chain_from, chains_from, Headed, Owned, Numbered, Inside, Spotted, Counted}
-use Rattle.store.specs.Consoles.{records_at}
-use Rattle.versions.specs.Session.{hold_at, Near, console_of, consoles_from, Reserved, spare, Empty}
-use Rattle.store.proofs.Lists.{map_same, firsts_many}
-use Rattle.versions.proofs.Ways.{walk_none, used_inside}
+use Rattle.store.specs.Meaning.{shut_all, pending_in, pending_list}
+use Rattle.store.specs.Consoles.{ats, records_at}
+use Rattle.versions.specs.Session.{console_of, consoles_from, Reserved, spare, Empty}
 
 pub shut_total : (E : Type 0) (n : ℕ) → pending_in (shut_all {E = E} n) ≡ 0
 shut_total E zero = refl
 shut_total E (suc n) = let rest = shut_total E n in omega arith
 
 module _ {E : Type 0} where
-  abbrev first_one : E → ℕ → Version E
-  first_one e n = record { number = n; stamp = 0; entry = e }
-
-  firsts_push : (e : E) (m n : ℕ) → firsts e m (suc n) ≡ firsts e m n ++ ((first_one e (m + n) ∷ []) ∷ [])
-  firsts_push e m zero = ap (λ k. (first_one e k ∷ []) ∷ []) (sym (add-zero m))
-  firsts_push e m (suc n) =
-      let rest = firsts_push e (m + 1) n in
-      let same : (m + 1) + n ≡ m + suc n = omega arith in
-      ap (λ w. (first_one e m ∷ []) ∷ w) (rest ∙ ap (λ k. firsts e (m + 1) n ++ ((first_one e k ∷ []) ∷ [])) same)
-
-  -- a table with the first versions of n records, and no link
-  pub record Begun (e : E) (ps : List (Place E)) (newest : List ℕ) (n : ℕ) : Type 0 where
-    pub heads : length newest ≡ n
-    pub bare : (i : ℕ) → link ps i ≡ None
-    pub headed : Headed ps newest
-    pub owned : Owned ps newest
-    pub numbered : Numbered n ps
-    pub chains : chains_from e ps newest ≡ firsts e 0 n
-
-  pub begun_none : (e : E) → Begun e [] [] 0
-  begun_none e = record { heads = refl; bare = λ i. refl; headed = λ r h. absurd (omega arith); owned = λ r h. absurd (omega arith); numbered = λ i. omega arith; chains = refl }
-
-  chain_bare : (e : E) (ps : List (Place E)) (i : ℕ) → link ps i ≡ None → (n : ℕ) → 0 < n → walk e ps n (Some i) ≡ version_of e (place_at ps i) ∷ []
-  chain_bare e ps i q zero h = absurd (omega arith)
-  chain_bare e ps i q (suc n) h = ap (λ w. w ++ (version_of e (place_at ps i) ∷ [])) (ap (walk e ps n) q ∙ walk_none e ps n)
-
-  -- a place more, at the end
-  module _ (e : E) (ps : List (Place E)) (newest : List ℕ) (n : ℕ) (b : Begun e ps newest n) (x : Place E) (none : link_of x ≡ None) where
-    at_old : (i : ℕ) → i < length ps → place_at (ps ++ x ∷ []) i ≡ place_at ps i
-    at_old i l = get_or_append_left ps (x ∷ []) (Free 0) i l
-
-    at_end : place_at (ps ++ x ∷ []) (length ps) ≡ x
-    at_end = get_or_push ps x (Free 0) (length ps) refl
-
-    any_place : (P : Place E → Type 0) → P x → ((i : ℕ) → P (place_at ps i)) → P (Free 0) → (i : ℕ) → P (place_at (ps ++ x ∷ []) i)
-    any_place P here old past i =
-        let more = length_push ps x in
-        elim (cases_order i (length ps)) [
-          | inl at ↦ subst P (sym (ap (place_at (ps ++ x ∷ [])) at ∙ at_end)) here
-          | inr (inl below) ↦ subst P (sym (at_old i below)) (old i)
-          | inr (inr above) ↦ subst P (sym (get_or_past (ps ++ x ∷ []) i (Free 0) (omega arith))) past
-        ]
-
-    pub bare_more : (i : ℕ) → link (ps ++ x ∷ []) i ≡ None
-    bare_more = any_place (λ p. link_of p ≡ None) none b.bare refl
-
-    pub headed_more : Headed (ps ++ x ∷ []) newest
-    headed_more r l = let u = b.headed r l in let q = ap depth_of (at_old (get_or newest r 0) (used_inside ps (get_or newest r 0) u)) in omega arith
-
-    pub owned_more : Owned (ps ++ x ∷ []) newest
-    owned_more r l = ap record_of (at_old (get_or newest r 0) (used_inside ps (get_or newest r 0) (b.headed r l))) ∙ b.owned r l
-
-    pub chains_more : chains_from e (ps ++ x ∷ []) newest ≡ chains_from e ps newest
-    chains_more = map_same (chain_from e (ps ++ x ∷ [])) (chain_from e ps) newest (λ r l.
-        (let i = get_or newest r 0 in
-        let u = b.headed r l in
-        let same = at_old i (used_inside ps i u) in
-        let w : 0 < depth (ps ++ x ∷ []) i = headed_more r l in
-        chain_bare e (ps ++ x ∷ []) i (bare_more i) (depth (ps ++ x ∷ []) i) w
-        ∙ ap (λ p. version_of e p ∷ []) same
-        ∙ sym (chain_bare e ps i (b.bare i) (depth ps i) u)))
-
-  -- the first version of one record more
-  pub begun_more : (e : E) (ps : List (Place E)) (newest : List ℕ) (n : ℕ) → Begun e ps newest n → length ps ≡ n
-      → Begun e (ps ++ Used (record { version = first_one e n; owner = n; older = None }) ∷ []) (newest ++ n ∷ []) (n + 1)
-  begun_more e ps newest n b size =
-      let x : Place E = Used (record { version = first_one e n; owner = n; older = None }) in
-      let qs = ps ++ x ∷ [] in
-      let heads = length_push newest n in
-      let b1 = b.heads in
-      let end : place_at qs n ≡ x = ap (place_at qs) (sym size) ∙ at_end e ps newest n b x refl in
-      let here : (r : ℕ) → r ≡ n → get_or (newest ++ n ∷ []) r 0 ≡ n = λ r q. get_or_push newest n 0 r (omega arith) in
-      let old : (r : ℕ) → r < length newest → get_or (newest ++ n ∷ []) r 0 ≡ get_or newest r 0 = λ r q. get_or_append_left newest (n ∷ []) 0 r q in
-      let depth-end = ap depth_of end in
-      let chain : chain_from e qs n ≡ first_one e n ∷ [] = (chain_bare e qs n (bare_more e ps newest n b x refl n) (depth qs n) (omega arith) ∙ ap (λ p. version_of e p ∷ []) end) in
-      record {
-        heads = omega arith;
-        bare = bare_more e ps newest n b x refl;
-        headed = λ r h. (elim (cases_eq r n) [
-          | inl q ↦ (let a = ap (depth qs) (here r q) in omega arith)
-          | inr q ↦ (let l : r < length newest = omega arith in let a = ap (depth qs) (old r l) in let u = headed_more e ps newest n b x refl r l in omega arith)
-        ]);
-        owned = λ r h. (elim (cases_eq r n) [
-          | inl q ↦ ap (λ i. record_of (place_at qs i)) (here r q) ∙ ap record_of end ∙ sym q
-          | inr q ↦ (let l : r < length newest = omega arith in ap (λ i. record_of (place_at qs i)) (old r l) ∙ owned_more e ps newest n b x refl r l)
-        ]);
-        numbered = any_place e ps newest n b x refl (λ p. depth_of p ≤ n + 1) (omega arith) (λ i. let u = b.numbered i in omega arith) (omega arith);
-        chains =
-            map_push (chain_from e qs) newest n
-            ∙ ap (λ cs. cs ++ chain_from e qs n ∷ []) (chains_more e ps newest n b x refl ∙ b.chains)
-            ∙ ap (λ c. firsts e 0 n ++ c ∷ []) chain
-            ∙ ap (λ k. firsts e 0 n ++ ((first_one e k ∷ []) ∷ [])) (omega arith)
-            ∙ sym (firsts_push e 0 n)
-            ∙ ap (firsts e 0) (sym (add-one n));
-      }
-
-  -- a free place more
-  pub begun_free : (e : E) (ps : List (Place E)) (newest : List ℕ) (n k : ℕ) → Begun e ps newest n → Begun e (ps ++ Free k ∷ []) newest n
-  begun_free e ps newest n k b = record {
-    heads = b.heads;
-    bare = bare_more e ps newest n b (Free k) refl;
-    headed = headed_more e ps newest n b (Free k) refl;
-    owned = owned_more e ps newest n b (Free k) refl;
-    numbered = any_place e ps newest n b (Free k) refl (λ p. depth_of p ≤ n) (omega arith) b.numbered (omega arith);
-    chains = chains_more e ps newest n b (Free k) refl ∙ b.chains;
-  }
-
-  -- the free places, from `size` on
-  pub record Spread (ps : List (Place E)) (free : List ℕ) (size n : ℕ) : Type 0 where
-    pub long : length ps ≡ n
-    pub many : length free + size ≡ n
-    pub inside : Inside ps free
-    pub spotted : Spotted ps free
-
-  pub spread_none : (ps : List (Place E)) (free : List ℕ) (n : ℕ) → length ps ≡ n → free ≡ [] → Spread ps free n n
-  spread_none ps free n size none =
-      let z = ap length none in
-      record { long = size; many = omega arith; inside = λ k h. absurd (omega arith); spotted = λ k h. absurd (omega arith) }
-
-  pub spread_more : (ps : List (Place E)) (free : List ℕ) (size n : ℕ) → Spread ps free size n → Spread (ps ++ Free (n - size) ∷ []) (free ++ n ∷ []) size (n + 1)
-  spread_more ps free size n s =
-      let x : Place E = Free (n - size) in
-      let more = length_push ps x in
-      let most = length_push free n in
-      let a = s.long in
-      let b = s.many in
-      record {
-        long = omega arith;
-        many = omega arith;
-        inside = λ k h. (elim (cases_eq k (length free)) [
-          | inl q ↦ (let v = get_or_push free n 0 k (sym q) in omega arith)
-          | inr q ↦ (let l : k < length free = omega arith in let v = get_or_append_left free (n ∷ []) 0 k l in let u = s.inside k l in omega arith)
-        ]);
-        spotted = λ k h. (elim (cases_eq k (length free)) [
-          | inl q ↦
-              (let v = get_or_push free n 0 k (sym q) in
-              let end : place_at (ps ++ x ∷ []) n ≡ x = get_or_push ps x (Free 0) n s.long in
-              ap (λ i. spot_of (place_at (ps ++ x ∷ []) i)) v ∙ ap spot_of end ∙ (omega arith))
-          | inr q ↦
-              (let l : k < length free = omega arith in
-              let v = get_or_append_left free (n ∷ []) 0 k l in
-              ap (λ i. spot_of (place_at (ps ++ x ∷ []) i)) v ∙ ap spot_of (get_or_append_left ps (x ∷ []) (Free 0) (get_or free k 0) (s.inside k l)) ∙ s.spotted k l)
-        ]);
-      }
-
-  -- the table, when all its places are made
-  pub begun_links : (e : E) (ps : List (Place E)) (newest : List ℕ) (n : ℕ) → Begun e ps newest n → (i j : ℕ) → link ps i ≡ Some j → ⊥
-  begun_links e ps newest n b i j q =
-      let none : ◌≡◌ {A = Option ℕ} None (Some j) = sym (b.bare i) ∙ q in
-      let z : ◌≡◌ {A = ℕ} 0 1 = cc in omega arith
-
-  pub begun_counted : (e : E) (ps : List (Place E)) (newest free : List ℕ) (size n : ℕ) → Begun e ps newest size → Spread ps free size n → Counted e ps newest free
-  begun_counted e ps newest free size n b s =
-      let all = ap versions_in b.chains ∙ firsts_many e 0 size in
-      let l = s.long in
-      let m = s.many in
-      omega arith
-
   -- n consoles, all shut
   pub record Shutting (room : ℕ) (sessions : List (Session E)) (n : ℕ) : Type 0 where
     pub long : length sessions ≡ n
@@ -184,31 +28,18 @@ module _ {E : Type 0} where
     pub empty : Empty sessions
     pub consoles : consoles_from sessions ≡ shut_all n
 
-  pub shutting_none : (room : ℕ) → Shutting room [] 0
-  shutting_none room = record { long = refl; reserved = λ k d h. absurd (omega arith); empty = λ k d h. absurd (omega arith); consoles = refl }
-
   shut_push : (n : ℕ) → shut_all {E = E} n ++ None ∷ [] ≡ shut_all (suc n)
   shut_push zero = refl
   shut_push (suc n) = ap (λ w. None ∷ w) (shut_push n)
 
   pub shutting_more : (room : ℕ) (sessions : List (Session E)) (n : ℕ) (x : Session E) → Shutting room sessions n → x.began ≡ None → vec_items x.pending ≡ [] → room ≤ vec_capacity x.pending → Shutting room (sessions ++ x ∷ []) (n + 1)
   shutting_more room sessions n x s none free cap =
-      let long = length_push sessions x in
-      let s0 = s.long in
       let this : console_of x ≡ None = rw none refl in
       let bare : spare x.began (vec_items x.pending) ≡ 0 = rw (none, free) refl in
       record {
-        long = omega arith;
-        reserved = λ k d h.
-            (elim (cases_eq k n) [
-              | inl here ↦ (let v : get_or (sessions ++ x ∷ []) k d ≡ x = get_or_push sessions x d k (omega arith) in rw v cap)
-              | inr there ↦ (let below : k < length sessions = omega arith in let v = get_or_append_left sessions (x ∷ []) d k below in rw v (s.reserved k d below))
-            ]);
-        empty = λ k d h.
-            (elim (cases_eq k n) [
-              | inl here ↦ (let v : get_or (sessions ++ x ∷ []) k d ≡ x = get_or_push sessions x d k (omega arith) in rw v bare)
-              | inr there ↦ (let below : k < length sessions = omega arith in let v = get_or_append_left sessions (x ∷ []) d k below in rw v (s.empty k d below))
-            ]);
+        long = length_push sessions x ∙ ap (λ m. m + 1) s.long;
+        reserved = All-push (λ d. room ≤ vec_capacity d.pending) sessions x s.reserved cap;
+        empty = All-push (λ d. spare d.began (vec_items d.pending) ≡ 0) sessions x s.empty bare;
         consoles = map_push console_of sessions x ∙ ap (λ cs. cs ++ console_of x ∷ []) s.consoles ∙ ap (λ c. shut_all n ++ c ∷ []) this ∙ shut_push n ∙ ap shut_all (sym (add-one n));
       }
 
@@ -217,19 +48,75 @@ module _ {E : Type 0} where
   shut_at (suc n) zero = refl
   shut_at (suc n) (suc k) = shut_at n k
 
-  pub shut_records : (room : ℕ) (sessions : List (Session E)) (n k : ℕ) → Shutting room sessions n → length (records_at (consoles_from sessions) k) ≡ 0
-  shut_records room sessions n k s = ap (λ cs. length (records_at cs k)) s.consoles ∙ ap (λ c. length (map (λ p. p.at) (pending_list c))) (shut_at n k)
+  pub shut_records : (room : ℕ) (sessions : List (Session E)) (n k : ℕ) → Shutting room sessions n → records_at (consoles_from sessions) k ≡ []
+  shut_records room sessions n k s = ap (λ cs. records_at cs k) s.consoles ∙ ap (λ c. ats (pending_list c)) (shut_at n k)
 
   pub shut_none : (room : ℕ) (sessions : List (Session E)) (n : ℕ) → Shutting room sessions n → pending_in (consoles_from sessions) ≡ 0
   shut_none room sessions n s = ap pending_in s.consoles ∙ shut_total E n
 
-pub near_none : Near []
-near_none r h = absurd (omega arith)
+-- what a place of a fresh table holds: the first version of the record of its number, if there is one
+abbrev pub first_row : {E : Type 0} → E → ℕ → Row E
+first_row e i = record { version = record { number = i; stamp = 0; entry = e }; owner = i; older = None }
 
-pub near_more : (hs : List Hold) (h : Hold) → Near hs → h.console < 16 → Near (hs ++ h ∷ [])
-near_more hs h near low r l =
-    let long = length_push hs h in
-    elim (cases_eq r (length hs)) [
-      | inl here ↦ (let v : hold_at (hs ++ h ∷ []) r ≡ h = get_or_push hs h _ r (sym here) in rw v low)
-      | inr there ↦ (let below : r < length hs = omega arith in let v = get_or_append_left hs (h ∷ []) (record { console = 0; place = 0 }) r below in rw v (near r below))
-    ]
+abbrev pub first_place : {E : Type 0} → E → ℕ → ℕ → Option (Row E)
+first_place e size i = then_some (nat_lt i size) (first_row e i)
+
+-- the places of a fresh table of `size` records and `room` places
+abbrev pub first_places : {E : Type 0} → E → ℕ → ℕ → List (Option (Row E))
+first_places e size room = map (first_place e size) (range_with_len 0 room)
+
+module _ {E : Type 0} (e : E) (size room : ℕ) (fits : size ≤ room) where
+  abbrev places : List (Option (Row E))
+  places = first_places e size room
+
+  at_first : (i : ℕ) → i < size → place_at places i ≡ Some (first_row e i)
+  at_first i l = get_or-map-range_with_len (first_place e size) 0 room i i None (omega arith) (omega arith) ∙ ap (λ b. then_some b (first_row e i)) (lt-ltb _ _ l)
+
+  at_free : (i : ℕ) → size ≤ i → place_at places i ≡ None
+  at_free i l =
+      elim (cases_lt i room) [
+        | inl within ↦ get_or-map-range_with_len (first_place e size) 0 room i i None within (omega arith) ∙ ap (λ b. then_some b (first_row e i)) (le-ltb _ _ l)
+        | inr past ↦ get_or_past places i None (let n = length-map-range_with_len (first_place e size) 0 room in omega arith)
+      ]
+
+  no_link : (i j : ℕ) → link places i ≡ Some j → ⊥
+  no_link i j q =
+      elim (cases_lt i size) [
+        | inl used ↦ (let z : ◌≡◌ {A = Option ℕ} None (Some j) = sym (ap link_of (at_first i used)) ∙ q in cc)
+        | inr free ↦ (let z : ◌≡◌ {A = Option ℕ} None (Some j) = sym (ap link_of (at_free i free)) ∙ q in cc)
+      ]
+
+  first_chain : (i : ℕ) → i < size → chain_from e places i ≡ (first_row e i).version ∷ []
+  first_chain i l = chain_used e places i (first_row e i) (sym (at_first i l)) ∙ ap (λ w. w ++ (first_row e i).version ∷ []) (walk_none e places i)
+
+  chains_upto : (m n : ℕ) → m + n ≤ size → chains_from e places (range_with_len m n) ≡ firsts e m n
+  chains_upto m zero l = refl
+  chains_upto m (suc n) l = let head = first_chain m (omega arith) in let rest = chains_upto (m + 1) n (omega arith) in cc
+
+  pub first_chains : chains_from e places (range_with_len 0 size) ≡ firsts e 0 size
+  first_chains = chains_upto 0 size (omega arith)
+
+  kept : TableKept e places (range_with_len 0 size) (range_with_len size (room - size))
+  kept =
+      let long = length-map-range_with_len (first_place e size) 0 room in
+      let heads = length-range_with_len 0 size in
+      let frees = length-range_with_len size (room - size) in
+      let all = ap versions_in first_chains ∙ firsts_many e 0 size in
+      record {
+        down = λ i j q. absurd (no_link i j q);
+        live = λ i j q. absurd (no_link i j q);
+        mine = λ i j q. absurd (no_link i j q);
+        headed = λ k d l. (let at = get_or-range_with_len 0 size k d (omega arith) in let u = ap depth_of (at_first (get_or (range_with_len 0 size) k d) (omega arith)) in omega arith);
+        owned = λ k l. (let at = get_or-range_with_len 0 size k 0 (omega arith) in ap record_of (at_first (get_or (range_with_len 0 size) k 0) (omega arith)) ∙ omega arith);
+        numbered = λ i. (elim (cases_lt i size) [
+          | inl used ↦ (let d = ap depth_of (at_first i used) in omega arith)
+          | inr free ↦ (let d = ap depth_of (at_free i free) in omega arith)
+        ]);
+        inside = λ k d l. (let at = get_or-range_with_len size (room - size) k d (omega arith) in omega arith);
+        vacant = λ k d l. (let at = get_or-range_with_len size (room - size) k d (omega arith) in at_free (get_or (range_with_len size (room - size)) k d) (omega arith));
+        apart = λ j k d l m q. (let x = get_or-range_with_len size (room - size) j d (omega arith) in let y = get_or-range_with_len size (room - size) k d (omega arith) in omega arith);
+        counted = omega arith;
+      }
+
+  pub first_kept : (ps : List (Option (Row E))) (ns fs : List ℕ) → ps ≡ places → ns ≡ range_with_len 0 size → fs ≡ range_with_len size (room - size) → TableKept e ps ns fs
+  first_kept ps ns fs p n f = rw (p, n, f) kept

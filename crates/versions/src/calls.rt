@@ -8,7 +8,7 @@ use crate::table::Table;
 use std::alloc::Global;
 use std::marker::PhantomData;
 use store::kind::Kind;
-use store::{OpenFault, Refusal, Seen, Store, Version};
+use store::{ConsoleId, OpenFault, Refusal, Seen, Store, TableSize};
 
 impl<E: Copy, K: Kind> Store<E> for Versions<E, K> {
     ghost rules = { K.Kind.rules };
@@ -20,11 +20,9 @@ impl<E: Copy, K: Kind> Store<E> for Versions<E, K> {
     fn open(heap: Global, size: u32, room: u32, first: E) -> Result<Versions<E, K>, OpenFault>
         ensures { Opens state_of size room first result }
     {
-        if size < 1 || size > 256 || room < size || room > 2048 {
-            return Err(OpenFault::Table);
-        }
-        let table = Table::fresh(heap, first, size as u16, room as u16)?;
-        let sessions = Sessions::fresh(heap, size, room)?;
+        let size = TableSize::new(size, room)?;
+        let table = Table::fresh(heap, first, size)?;
+        let sessions = Sessions::fresh(heap, size)?;
         Ok(Versions {
             kind: PhantomData,
             clock: 0,
@@ -34,42 +32,28 @@ impl<E: Copy, K: Kind> Store<E> for Versions<E, K> {
     }
 
     fn begin(&mut self, console: u32) -> Result<u16, Refusal> {
-        if console >= 16 {
-            return Err(Refusal::NoConsole);
+        let console = ConsoleId::try_from(console)?;
+        if self.sessions.began(console).is_some() {
+            return Err(Refusal::Open);
         }
-        match self.sessions.began(console) {
-            Some(_) => Err(Refusal::Open),
-            None => {
-                self.sessions.open(console, self.clock);
-                Ok(self.clock)
-            }
-        }
+        self.sessions.open(console, self.clock);
+        Ok(self.clock)
     }
 
     fn read(&self, console: u32, at: u32) -> Result<Seen<E>, Refusal> {
+        let console = ConsoleId::try_from(console)?;
         let began = self.sessions.live(console)?;
         if at >= self.table.size() {
             return Err(Refusal::NoRecord);
         }
         match self.sessions.own(console, at) {
             Some(entry) => Ok(Seen::Own(entry)),
-            None => {
-                // Field by field: a copy of the whole loads padding and a half of the entry together.
-                let Version {
-                    number,
-                    stamp,
-                    entry,
-                } = self.table.shown::<K>(at, began);
-                Ok(Seen::Committed(Version {
-                    number,
-                    stamp,
-                    entry,
-                }))
-            }
+            None => Ok(Seen::Committed(*self.table.shown::<K>(at, began))),
         }
     }
 
     fn write(&mut self, console: u32, at: u32, entry: E) -> Result<u32, Refusal> {
+        let console = ConsoleId::try_from(console)?;
         let began = self.sessions.live(console)?;
         if at >= self.table.size() {
             return Err(Refusal::NoRecord);
@@ -77,7 +61,7 @@ impl<E: Copy, K: Kind> Store<E> for Versions<E, K> {
         let newest = self.table.newest(at);
         match self.sessions.find(at) {
             Some(hold) => {
-                if hold.console != console {
+                if hold.console.number != console.number {
                     return Err(Refusal::Held);
                 }
                 self.sessions.replace(hold, at, entry);
@@ -96,6 +80,7 @@ impl<E: Copy, K: Kind> Store<E> for Versions<E, K> {
     }
 
     fn commit(&mut self, console: u32) -> Result<u16, Refusal> {
+        let console = ConsoleId::try_from(console)?;
         self.sessions.live(console)?;
         if self.clock >= 4000 {
             return Err(Refusal::DayFull);
@@ -109,6 +94,7 @@ impl<E: Copy, K: Kind> Store<E> for Versions<E, K> {
     }
 
     fn drop(&mut self, console: u32) -> Result<(), Refusal> {
+        let console = ConsoleId::try_from(console)?;
         self.sessions.live(console)?;
         self.sessions.shut(console);
         Ok(())

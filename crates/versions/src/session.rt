@@ -1,5 +1,5 @@
 // One console: its begin stamp while it is open, and what it has pending, by first write.
-use store::Pending;
+use store::{ConsoleId, Pending};
 
 #[derive(Drop)]
 pub(crate) struct Session<E> {
@@ -10,6 +10,6 @@ pub(crate) struct Session<E> {
 // Where a record's pending entry stands, if it still does: the console, and its place among that console's entries.
 #[derive(Clone, Copy)]
 pub(crate) struct Hold {
-    pub(crate) console: u32,
+    pub(crate) console: ConsoleId,
     pub(crate) place: u32,
 }

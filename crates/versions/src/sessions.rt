@@ -1,8 +1,8 @@
 // The sixteen consoles. For each record `holds` says where its pending entry stands, if it has one: a hold is taken
 // for true only if the entry that it leads to is of that record, so that no hold has to be taken back.
-ghost use Rattle.std.specs.Prelude.{◌≡◌, ℕ, ◌<◌, ◌≤◌, length, vec_len, vec_capacity};
+ghost use Rattle.std.specs.Prelude.{◌≡◌, ℕ, length, vec_len};
 ghost use Rattle.store.specs.Meaning.{pending_in};
-ghost use Rattle.versions.specs.Session.{Reserved, Empty, Listed, Held, Placed, Near, consoles_from};
+ghost use Rattle.versions.specs.Session.{Reserved, Empty, Listed, Held, Placed, consoles_from};
 
 use crate::session::{Hold, Session};
 
@@ -11,14 +11,12 @@ mod fresh;
 
 #[derive(Drop)]
 pub(crate) struct Sessions<E> {
-    room: u32,
-    count: u32,
+    count: usize,
     sessions: Vec<Session<E>>,
     holds: Vec<Hold>,
-    ghost sixteen: { (vec_len sessions ≡ 16) × (count ≤ room) × (room ≤ 2048) },
+    ghost sixteen: { vec_len sessions ≡ 16 },
     ghost reserved: { Reserved (length holds.items) sessions.items },
     ghost empty: { Empty sessions.items },
-    ghost near: { Near holds.items },
     ghost listed: { Listed holds.items (consoles_from sessions.items) },
     ghost held: { Held holds.items (consoles_from sessions.items) },
     ghost placed: { Placed holds.items (consoles_from sessions.items) },

@@ -1,7 +1,8 @@
 // What a commit asks of the table of marks, and what it leaves there.
-ghost use Rattle.std.specs.Prelude.{◌≡◌, length, if◌then◌else◌, Some, None, nat_lt};
+ghost use Rattle.std.specs.Prelude.{◌≡◌, ℕ, List, length, if◌then◌else◌, Some, None, nat_lt};
+ghost use Rattle.std.specs.Iterator.{IsFinite, Drains};
 ghost use Rattle.certifier.specs.Entries.{track_of};
-ghost use Rattle.certifier.specs.Marking.{mark_at, low_mark, top_stamp, top_high, raise_row, lower_row, add_row, raised, lowered, grown, marked, verdict_of};
+ghost use Rattle.certifier.specs.Marking.{mark_at, low_mark, top_stamp, top_high, raised, lowered, Changes, grown, marked, verdict_of};
 
 use crate::marks::Marks;
 use crate::track::Track;
@@ -19,15 +20,7 @@ impl Marks {
     fn row(&self, n: u32) -> Mark
         ensures { result ≡ mark_at self.now.rows.items n }
     {
-        if (n as usize) < self.rows.len() {
-            self.rows[n as usize]
-        } else {
-            Mark {
-                stamp: 0,
-                high: 0,
-                low: None,
-            }
-        }
+        self.get(n).unwrap_or(Mark::new(0))
     }
 
     // The smallest of `stamp` and the low marks present on the noted versions, and the greatest of their stamps.
@@ -36,82 +29,33 @@ impl Marks {
         ensures high { result.1 ≡ top_stamp self.now.rows.items 0 noted.now }
     {
         let mut low = stamp;
-        let mut high: u16 = 0;
+        let mut high = 0;
         for n in noted {
             let row = self.row(*n);
+            low = low.min(row.low.unwrap_or(low));
             high = high.max(row.stamp);
-            if let Some(m) = row.low {
-                low = low.min(m);
-            }
         }
         (low, high)
     }
 
+    // The greatest of `from` and the high marks of the overwritten versions.
     pub(crate) fn top_high(&self, from: u16, writes: &[Over]) -> u16
         ensures { result ≡ top_high self.now.rows.items from writes.now }
     {
-        let mut high = from;
-        for w in writes {
-            high = high.max(self.row(w.version).high);
-        }
-        high
+        writes
+            .iter()
+            .fold(from, |high, write| high.max(self.row(write.version).high))
     }
 
-    fn raise(&mut self, stamp: u16, n: u32)
-        ensures places { self.new.places ≡ self.old.places }
-        ensures rows { self.new.rows.items ≡ raise_row self.old.rows.items stamp n }
-    {
-        if (n as usize) < self.rows.len() {
-            self.rows[n as usize].high = stamp;
-        }
-    }
-
-    fn lower(&mut self, low: u16, n: u32)
-        ensures places { self.new.places ≡ self.old.places }
-        ensures rows { self.new.rows.items ≡ lower_row self.old.rows.items low n }
-    {
-        if (n as usize) < self.rows.len() {
-            self.rows[n as usize].low = Some(low);
-        }
-    }
-
-    fn add(&mut self, stamp: u16)
-        ensures places { self.new.places ≡ self.old.places }
-        ensures rows { self.new.rows.items ≡ add_row self.old.places self.old.rows.items stamp }
-    {
-        if self.rows.len() < self.places {
-            self.rows.push_reserved(Mark {
-                stamp,
-                high: stamp,
-                low: None,
-            });
-        }
-    }
-
-    pub(crate) fn raise_all(&mut self, stamp: u16, noted: &[u32])
-        ensures places { self.new.places ≡ self.old.places }
-        ensures rows { self.new.rows.items ≡ raised self.old.rows.items stamp noted.now }
-    {
-        for n in noted {
-            self.raise(stamp, *n);
-        }
-    }
-
-    pub(crate) fn lower_all(&mut self, low: u16, writes: &[Over])
-        ensures places { self.new.places ≡ self.old.places }
-        ensures rows { self.new.rows.items ≡ lowered self.old.rows.items low writes.now }
-    {
-        for w in writes {
-            self.lower(low, w.version);
-        }
-    }
-
-    pub(crate) fn add_all(&mut self, stamp: u16, writes: &[Over])
+    // Adds a row for each record written, where the table has place for it.
+    fn add_all(&mut self, stamp: u16, writes: &[Over])
         ensures places { self.new.places ≡ self.old.places }
         ensures rows { self.new.rows.items ≡ grown self.old.places self.old.rows.items stamp writes.now }
     {
-        for _w in writes {
-            self.add(stamp);
+        for _write in writes {
+            if self.rows.len() < self.places {
+                self.rows.push_reserved(Mark::new(stamp));
+            }
         }
     }
 
@@ -119,7 +63,7 @@ impl Marks {
     pub(crate) fn judge(&self, stamp: u16, track: &Track) -> Grant
         ensures { result ≡ verdict_of self.now.rows.items stamp (track_of track.now) }
     {
-        let (low, noted) = self.weigh(stamp, track.noted.as_slice());
+        let (low, noted) = self.weigh(stamp, track.noted());
         let high = self.top_high(noted, track.writes.as_slice());
         Grant { stamp, low, high }
     }
@@ -129,8 +73,43 @@ impl Marks {
         ensures places { self.new.places ≡ self.old.places }
         ensures rows { self.new.rows.items ≡ marked self.old.places self.old.rows.items grant.stamp grant.low (track_of track.now) }
     {
-        self.raise_all(grant.stamp, track.noted.as_slice());
-        self.lower_all(grant.low, track.writes.as_slice());
+        mark_each(&mut self.rows, grant, track);
         self.add_all(grant.stamp, track.writes.as_slice());
+    }
+}
+
+// Sets the high marks of the noted versions, and the low marks of the overwritten ones.
+fn mark_each(rows: &mut [Mark], grant: Grant, track: &Track)
+    ensures { rows.new ≡ lowered (raised rows.old grant.stamp (track_of track.now).noted) grant.low (track_of track.now).writes }
+{
+    let raise = |mark: Mark| Mark {
+        high: grant.stamp,
+        ..mark
+    };
+    let lower = |mark: Mark| Mark {
+        low: Some(grant.low),
+        ..mark
+    };
+    change_each(rows, track.noted().iter().copied(), raise);
+    let writes = track.writes.as_slice();
+    change_each(rows, writes.iter().map(|write| write.version), lower);
+}
+
+// Changes the row of each numbered version that the table has.
+fn change_each<I: Iterator<Item = u32> + Drop, F: Fn(Mark) -> Mark>(
+    rows: &mut [Mark],
+    numbers: I,
+    change: F,
+)
+    requires can { I.can_next numbers }
+    requires ends { IsFinite (I.remaining numbers) }
+    requires callable { F.IsAlwaysCallable change }
+    ensures { ((ns : List ℕ) × Drains I.next_gives numbers ns × Changes (F.post change) rows.old ns rows.new) }
+{
+    for n in numbers {
+        let n = n as usize;
+        if n < rows.len() {
+            rows[n] = change(rows[n]);
+        }
     }
 }

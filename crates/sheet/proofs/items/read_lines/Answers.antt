@@ -1,13 +1,17 @@
-use Rattle.std.proofs.Common.{[], ◌∷◌, ◌++◌, map, vec_items, ap, ◌∙◌}
-use Rattle.std.proofs.lemmas.List.{map_push}
+use Rattle.std.proofs.Common.{◌==◌, rules}
+use borrow.Author.Tests.{tests}
+use Rattle.std.proofs.lemmas.Iterator.{YieldsList-from_map_by}
+use Rattle.std.proofs.lemmas.Iterator.Consumers.{map_from_collect, YieldsList-at}
+use Rattle.std.proofs.lemmas.Iterator.Splits.{YieldsList-from_slice_split}
 use Rattle.sheet.specs.Faults.{told}
 use Rattle.sheet.specs.Requests.{request_of}
-use Rattle.filing.proofs.Appends.{append_more}
 use Rattle.sheet.proofs.items.read_lines.Goals as goal
 
-pub loop-line-preserved : goal.loop-line-preserved
-loop-line-preserved c =
-    append_more (map told (vec_items c.loop-line.items)) _ (request_of c.in-Some.line.now ∷ []) _ _ _
-    (ap (map told) c.in_ok-push.ensures.items ∙ map_push told (vec_items c.loop-line.items) c.request_in.result
-    ∙ ap (λ x. map told (vec_items c.loop-line.items) ++ x ∷ []) c.request_in.ensures)
-    (ap (map request_of) c.in-Some.ensures.steps.0) c.loop-line.invariant
+pub returns : goal.returns
+returns c =
+    rw c.in-Some.ensures
+    (map_from_collect c.collect.result c.collect.ensures.ran
+    (YieldsList-from_map_by _ told request_of
+    (YieldsList-at c.map.ensures.source
+    (YieldsList-from_slice_split _ (λ b. b == 10) c.in-Some.text.now c.split.ensures.rest c.split.ensures.done c.split.ensures.closure (λ x r q k. search (rules, tests))))
+    c.map.ensures.closure (λ x r q k. search rules)))

@@ -1,20 +1,17 @@
-use Rattle.std.proofs.Common.{◌+◌, ◌-◌, ◌*◌, get_or, drop, sym, ◌∙◌, arith}
-use Rattle.sheet.proofs.Numbers.{digits_at, value_ge, value_more, value_done, too_large, is_number}
+use Rattle.std.proofs.Common.{sym, ◌∙◌, arith}
+use Rattle.sheet.proofs.Numbers.{too_large_from, value_done, is_number}
 use Rattle.sheet.proofs.numeral.number.Goals as goal
 
-pub overflow_sub-more : goal.overflow_sub-more
-overflow_sub-more c = (digits_at c.args.bytes.now c.loop-b.b-index (sym c.if-not-all_digits.ensures) (omega arith)).0
+pub returns-in_err-checked_mul : goal.returns-in_err-checked_mul
+returns-in_err-checked_mul c =
+    let large = too_large_from c.args.bytes.now c.loop-b.b-index c.loop-b.n (omega arith) (omega (arith, c.in_err-checked_mul.ensures)) c.loop-b.invariant.1 in
+    rw c.from_residual.ensures large
 
-pub returns-then-more-gt4294967295 : goal.returns-then-more-gt4294967295
-returns-then-more-gt4294967295 c =
-    let xs = c.args.bytes.now in
-    let i = c.loop-b.b-index in
-    let ge = value_ge (drop (i + 1) xs) (c.loop-b.n * 10 + (get_or xs i 0 - 48)) in
-    let step = value_more xs i c.loop-b.n (omega arith) in
-    too_large xs (omega (arith, c.loop-b.invariant.1))
-
-pub loop-b-preserved : goal.loop-b-preserved
-loop-b-preserved c = (c.if-more-gt4294967295.false, value_more c.args.bytes.now c.loop-b.b-index c.loop-b.n (omega arith) ∙ c.loop-b.invariant.1)
+pub returns-in_err-n : goal.returns-in_err-n
+returns-in_err-n c =
+    let large =
+    too_large_from c.args.bytes.now c.loop-b.b-index c.loop-b.n (omega arith) (omega (arith, c.in_ok-checked_mul.ensures, c.in_err-n.ensures, c.from.ensures)) c.loop-b.invariant.1 in
+    rw c.from_residual-in_err-n.ensures large
 
 pub returns : goal.returns
 returns c =

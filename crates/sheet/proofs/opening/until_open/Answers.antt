@@ -1,21 +1,19 @@
-use Rattle.std.proofs.Common.{map, length, is_some, ap, ◌∙◌, arith}
-use Rattle.std.proofs.lemmas.List.{at_drop_all}
+use Rattle.std.proofs.Common.{◌∙◌, Result, sym, rules}
+use borrow.Author.Tests.{tests}
+use Rattle.std.proofs.lemmas.Iterator.{YieldsList-from_slice}
+use Rattle.std.proofs.lemmas.Iterator.Search.{position_from_yields_List}
+use Rattle.sheet.specs.declared.fault.Fault.{Fault}
+use Rattle.sheet.specs.declared.request.Request.{Request}
 use Rattle.sheet.specs.Faults.{told}
-use Rattle.sheet.specs.Stretches.{until_open}
-use Rattle.sheet.proofs.Untils.{until_at}
+use Rattle.sheet.specs.Stretches.{opens}
+use Rattle.sheet.proofs.Places.{place_found, position_map}
 use Rattle.sheet.proofs.opening.until_open.Goals as goal
-
-pub returns-then-is_some : goal.returns-then-is_some
-returns-then-is_some c =
-    let stop = until_at c.args.items.now c.loop-i.i _ (omega arith) (c.if-is_some.ensures ∙ ap is_some c.sizes_in.ensures) in
-    omega (arith, c.loop-i.invariant)
-
-pub loop-i-preserved : goal.loop-i-preserved
-loop-i-preserved c =
-    let more = until_at c.args.items.now c.loop-i.i _ (omega arith) (c.if-is_some.ensures ∙ ap is_some c.sizes_in.ensures) in
-    omega (arith, c.loop-i.invariant)
 
 pub returns : goal.returns
 returns c =
-    let done = at_drop_all (λ l. length (until_open (map told l))) c.args.items.now c.loop-i.i (omega arith) in
-    omega (arith, c.loop-i.invariant)
+    let items = c.args.items.now in
+    let test = λ (x : Result Request Fault). opens (told x) in
+    place_found test items c.position.result c.unwrap_or.result
+    (position_from_yields_List test _ _ c.position.result c.position.ensures.ran (YieldsList-from_slice items c.iter.ensures.rest) (λ x b q k. search (rules, tests)))
+    c.unwrap_or.ensures
+    ∙ sym (position_map opens told items)

@@ -1,12 +1,9 @@
-use Rattle.std.proofs.Common.{[], Some, refl, ap, ◌∙◌, arith}
-use Rattle.store.specs.Meaning.{pending_in}
-use Rattle.versions.proofs.Totals.{total_clear}
+use Rattle.std.proofs.Common.{arith}
+use Rattle.versions.proofs.Totals.{total}
 use Rattle.versions.proofs.calls.VersionsStore.begin.Goals as goal
 
-pub invariant_of-self : goal.invariant_of-self
-invariant_of-self g c =
-    let v = c.args.self.now in
-    let e = c.open.ensures in
-    let t = total_clear v.sessions c.args.console c.if-console-ge16.false (Some (record { began = v.clock; pending = [] })) refl in
-    let p = ap pending_in e.consoles in
-    record { times = v.times; alike = (e.records ∙ v.alike.0, e.room ∙ v.alike.1); used = let u = v.used in omega arith }
+pub invariant_of-self-clause-used : goal.invariant_of-self-clause-used
+invariant_of-self-clause-used g c =
+    let more = total c.open.ensures c.in_ok-console.console.few in
+    let room = c.args.self.now.used in
+    omega arith

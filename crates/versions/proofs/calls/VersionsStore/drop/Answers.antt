@@ -1,12 +1,9 @@
-use Rattle.std.proofs.Common.{None, refl, ap, ◌∙◌, arith}
-use Rattle.store.specs.Meaning.{pending_in}
-use Rattle.versions.proofs.Totals.{total_clear}
+use Rattle.std.proofs.Common.{arith}
+use Rattle.versions.proofs.Totals.{total}
 use Rattle.versions.proofs.calls.VersionsStore.drop.Goals as goal
 
-pub invariant_of-self : goal.invariant_of-self
-invariant_of-self g c =
-    let v = c.args.self.now in
-    let e = c.shut.ensures in
-    let t = total_clear v.sessions _ c.in_ok-live.ensures.0 None refl in
-    let p = ap pending_in e.consoles in
-    record { times = v.times; alike = (e.records ∙ v.alike.0, e.room ∙ v.alike.1); used = let u = v.used in omega arith }
+pub invariant_of-self-clause-used : goal.invariant_of-self-clause-used
+invariant_of-self-clause-used g c =
+    let more = total c.shut.ensures c.in_ok-console.console.few in
+    let room = c.args.self.now.used in
+    omega arith

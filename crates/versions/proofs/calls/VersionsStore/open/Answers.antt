@@ -1,25 +1,15 @@
 use Rattle.std.proofs.Common.{length, sym, ap, ◌∙◌, arith}
-use Rattle.std.proofs.lemmas.Result.{err_from_is_err_and}
-use Rattle.store.specs.Meaning.{Range, versions_in, pending_in}
-use Rattle.store.proofs.Lists.{firsts_long, firsts_many}
+use Rattle.store.specs.Meaning.{pending_in}
+use Rattle.store.proofs.Lists.{firsts_long}
 use Rattle.versions.proofs.Starts.{shut_total}
 use Rattle.versions.proofs.calls.VersionsStore.open.Goals as goal
 
-pub invariant_of-result : goal.invariant_of-result
-invariant_of-result g c =
-    let a = c.in_ok-table.ensures in
-    let d = c.in_ok-sessions.ensures in
-    let long = ap length a.0 ∙ firsts_long c.args.first 0 c.args.size in
-    let many = ap versions_in a.0 ∙ firsts_many c.args.first 0 c.args.size in
-    let none = ap pending_in d.0 ∙ shut_total g.row.E.Denot 16 in
-    record { times = (omega arith, omega arith); alike = (d.1 ∙ sym long, d.2 ∙ sym a.1); used = omega arith }
+pub invariant_of-result-clause-alike : goal.invariant_of-result-clause-alike
+invariant_of-result-clause-alike g c = c.in_ok-sessions.ensures.1 ∙ sym (ap length c.in_ok-table.ensures.0 ∙ firsts_long c.args.first 0 c.in_ok-size.size.records)
 
-pub returns-in_err-sessions : goal.returns-in_err-sessions
-returns-in_err-sessions g c =
-    let low = c.if-size-lt1.false in
-    let most = c.if-size-gt256.false in
-    let under = c.if-room-size.false in
-    let top = c.if-room-gt2048.false in
-    let p = err_from_is_err_and c.from_residual-in_err-sessions.result c.from_residual-in_err-sessions.ensures.1 in
-    let range : Range c.args.size c.args.room = (omega (arith, low), omega (arith, most), omega (arith, under), omega (arith, top)) in
-    rw (p.1, p.2) range
+pub invariant_of-result-clause-used : goal.invariant_of-result-clause-used
+invariant_of-result-clause-used g c =
+    let table = c.in_ok-table.ensures in
+    let none = ap pending_in c.in_ok-sessions.ensures.0 ∙ shut_total g.row.E.Denot 16 in
+    let fits = c.in_ok-size.size.ranges in
+    omega (arith, table.3, table.1)

@@ -1,62 +1,45 @@
-use Rattle.std.proofs.Common.{◌≡◌, ℕ, ◌<◌, List, length, get_or, vec_items, sym, ap, ◌∙◌, arith}
-use Rattle.std.proofs.lemmas.List.{get_or_read, length-map, get_or-map}
+use Rattle.std.proofs.Common.{◌≡◌, ℕ, ◌<◌, false, eqb, List, length, get_or, vec_items, sym, ap, ◌∙◌, inl, inr, arith}
+use Rattle.std.proofs.lemmas.Bool.{cases_Bool, eqb-true, both_ways, eq-eqb}
+use Rattle.std.proofs.lemmas.List.{length-map, get_or-map}
+use Rattle.std.specs.Bool.{then_some}
 use Rattle.store.specs.declared.Pending.{Pending}
 use Rattle.versions.specs.declared.session.Hold.{Hold}
 use Rattle.versions.specs.declared.sessions.Sessions.{Sessions}
-use Rattle.versions.specs.declared.session.Session.{Session}
-use Rattle.store.specs.Consoles.{records_at}
-use Rattle.versions.specs.Session.{hold_at}
+use Rattle.store.specs.Meaning.{any_holds}
+use Rattle.store.specs.Consoles.{ats, pend_at, records_at}
+use Rattle.versions.specs.Session.{Found}
 use Rattle.versions.specs.Sessions.{consoles_of}
-use Rattle.store.specs.Consoles.{ats}
 use Rattle.versions.proofs.Backs.{found_none}
-use Rattle.versions.proofs.Kepts.{session_pending, all_back}
+use Rattle.versions.proofs.Kepts.{all_back}
 use Rattle.versions.proofs.sessions.Sessions.find.Goals as goal
-use Rattle.versions.proofs.sessions.Sessions.find.Goals.{else-place-pending-via-then-place-pending+else-pending-place, else-place-pending-via-else-place-pending}
 
-module _ {E : Type 0} (a : Sessions E) (r : ℕ) (within : r < length (vec_items a.holds)) (h : Hold) (at : h ≡ get_or (vec_items a.holds) r h) where
-  hold_is : h ≡ hold_at (vec_items a.holds) r
-  hold_is = get_or_read (vec_items a.holds) r h within at _
+module _ {E : Type 0} (a : Sessions E) (r : ℕ) (within : r < length (vec_items a.holds)) (h : Hold) (at : h ≡ get_or (vec_items a.holds) r h) (ps : List (Pending E)) (is : ps ≡ pend_at (consoles_of a) h.console.number) where
+  long : length (records_at (consoles_of a) h.console.number) ≡ length ps
+  long = ap (λ qs. length (ats qs)) (sym is) ∙ length-map ps (λ (p : Pending E). p.at)
 
-  hold_near : h.console < 16
-  hold_near = let n = a.near r within in let q = ap (λ y. y.console) hold_is in omega arith
+  record-at : (p : Pending E) → h.place < length ps → get_or (records_at (consoles_of a) h.console.number) h.place 0 ≡ (get_or ps h.place p).at
+  record-at p l = ap (λ qs. get_or (ats qs) h.place 0) (sym is) ∙ get_or-map (λ (q : Pending E). q.at) ps h.place p 0 l
 
-  module _ (x : Session E) (of : x ≡ get_or (vec_items a.sessions) h.console x) (ps : List (Pending E)) (is : ps ≡ vec_items x.pending) where
-    records_are : records_at (consoles_of a) h.console ≡ ats ps
-    records_are = ap ats (session_pending a h.console hold_near x of ∙ sym is)
+  -- the hold leads to no entry of record r
+  none : (h.place < length ps → get_or (records_at (consoles_of a) h.console.number) h.place 0 ≡ r → ⊥) → any_holds (consoles_of a) r ≡ false
+  none not = found_none (vec_items a.holds) (consoles_of a) r h at within (all_back a) (λ l q. let n = long in not (omega arith) q)
 
-    long : length (records_at (consoles_of a) h.console) ≡ length ps
-    long = ap length records_are ∙ length-map ps (λ (p : Pending E). p.at)
+  -- what stands where the hold leads to
+  found : (p : Pending E) → h.place < length ps → p ≡ get_or ps h.place p → Found (consoles_of a) r (then_some (eqb p.at r) h)
+  found p l q =
+      let here : get_or (records_at (consoles_of a) h.console.number) h.place 0 ≡ p.at = record-at p l ∙ ap (λ x. x.at) (sym q) in
+      let n = long in
+      elim (cases_Bool (eqb p.at r)) [
+        | inl yes' ↦ rw yes' (omega arith, here ∙ eqb-true _ _ yes')
+        | inr no' ↦ rw no' (none (λ _ e. both_ways _ no' (eq-eqb _ _ (sym here ∙ e))))
+      ]
 
-    record-at : (p : Pending E) → h.place < length ps → get_or (records_at (consoles_of a) h.console) h.place 0 ≡ (get_or ps h.place p).at
-    record-at p l = ap (λ rs. get_or rs h.place 0) records_are ∙ get_or-map (λ (q : Pending E). q.at) ps h.place p 0 l
+pub returns-in_err-pending : goal.returns-in_err-pending
+returns-in_err-pending g c =
+    let past = c.in_err-pending.ensures.lookup in
+    rw c.from_residual.ensures (none c.args.self.now c.args.at c.requires c.index-hold.result.now c.index-hold.ensures c.pending.result.now c.pending.ensures.value (λ l _. absurd (omega arith)))
 
-pub index-requires : goal.index-requires
-index-requires g c =
-    let n = hold_near c.args.self.now c.args.at c.requires c.index-hold.result.now c.index-hold.ensures in
-    omega arith
-
-pub returns-then-pending-place : goal.returns-then-pending-place
-returns-then-pending-place g c =
-    let a = c.args.self.now in
-    let h = c.index-hold.result.now in
-    let x = c.index.result.now in
-    let ps = c.as_slice-pending.result.now in
-    let m = long a c.args.at c.requires h c.index-hold.ensures x c.index.ensures ps c.as_slice-pending.ensures.value in (
-      hold_near a c.args.at c.requires h c.index-hold.ensures,
-      omega arith,
-      record-at a c.args.at c.requires h c.index-hold.ensures x c.index.ensures ps c.as_slice-pending.ensures.value c.index-pending-place.result c.if-place-pending.true ∙ c.if-pending-place.true,
-    )
-
-pub returns-else-place-pending : goal.returns-else-place-pending
-returns-else-place-pending g c =
-    let a = c.args.self.now in
-    let h = c.index-hold.result.now in
-    let x = c.index.result.now in
-    let ps = c.as_slice-pending.result.now in
-    let m = long a c.args.at c.requires h c.index-hold.ensures x c.index.ensures ps c.as_slice-pending.ensures.value in
-    found_none (vec_items a.holds) (consoles_of a) c.args.at h (hold_is a c.args.at c.requires h c.index-hold.ensures) (all_back a)
-    (λ l q. elim c.else-place-pending.branch [
-      | else-place-pending-via-then-place-pending+else-pending-place w ↦
-          w.if-pending-place.false (sym (record-at a c.args.at c.requires h c.index-hold.ensures x c.index.ensures ps c.as_slice-pending.ensures.value w.index-pending-place.result (omega arith)) ∙ q)
-      | else-place-pending-via-else-place-pending w ↦ (let t = w.if-place-pending.false in omega arith)
-    ])
+pub returns : goal.returns
+returns g c =
+    let read = c.in_ok-pending.ensures.lookup in
+    rw c.then_some.ensures (found c.args.self.now c.args.at c.requires c.index-hold.result.now c.index-hold.ensures c.pending.result.now c.pending.ensures.value c.in_ok-pending.pending.now (omega arith) read.1)

@@ -1,4 +1,4 @@
-use Rattle.std.proofs.Common.{length, sym, refl, ap, ◌∙◌, arith}
+use Rattle.std.proofs.Common.{rules, Some, length, sym, refl, ap, ◌∙◌, arith}
 use Rattle.store.specs.Meaning.{pending_list}
 use Rattle.versions.proofs.Kepts.{session_pending, session_room, clear_kept, open_is}
 use Rattle.versions.proofs.sessions.Sessions.open.Goals as goal
@@ -9,9 +9,9 @@ invariant_of-self g c =
     let k = c.args.console in
     let x = c.index_mut.result.now in
     let at = c.index_mut.ensures.value in
-    let none = sym (session_pending a k c.requires.0 x at) ∙ ap pending_list c.requires.1 in
-    let kept = clear_kept a k c.requires.0 x at _ a.count a.sixteen.1 (session_room a k c.requires.0 x at) (ap length none) (let z = ap length none in omega arith) in
-    record { sixteen = kept.sixteen; reserved = kept.reserved; empty = kept.empty; near = kept.near; listed = kept.listed; held = kept.held; placed = kept.placed; counted = kept.counted }
+    let none = sym (session_pending a k.number k.few x at) ∙ ap pending_list c.requires in
+    let kept = clear_kept a k.number k.few x at (record { began = Some c.args.stamp; pending = x.pending }) a.count (session_room a k.number k.few x at) none (let z = ap length none in omega arith) in
+    search rules
 
 pub returns : goal.returns
 returns g c =
@@ -19,5 +19,5 @@ returns g c =
     let k = c.args.console in
     let x = c.index_mut.result.now in
     let at = c.index_mut.ensures.value in
-    let none = sym (session_pending a k c.requires.0 x at) ∙ ap pending_list c.requires.1 in
-    record { consoles = open_is a k c.requires.0 x at _ c.args.stamp refl none; records = refl; room = refl }
+    let none = sym (session_pending a k.number k.few x at) ∙ ap pending_list c.requires in
+    record { consoles = open_is a k.number k.few x at _ c.args.stamp refl none; records = refl }
