@@ -107,6 +107,7 @@ impl fmt::Display for Said {
 #[derive(Clone, Copy)]
 pub(crate) struct Fault(Option<Code>);
 
+// Kept: an impl for each refusal, since a macro of the repository may write none.
 impl From<Refusal> for Fault {
     fn from(refusal: Refusal) -> Fault {
         Fault(Some(refusal.code()))
