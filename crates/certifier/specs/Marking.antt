@@ -68,6 +68,14 @@ top_high ms h ws = fold (λ high w. max high (mark_at ms w.version).high) h ws
 abbrev pub verdict_of : List Mark → ℕ → Track → Grant
 verdict_of ms c t = record { stamp = c; low = low_mark ms c t.noted; high = top_high ms (top_stamp ms 0 t.noted) t.writes }
 
+-- the row of version n changed by f, where there is one
+abbrev pub changed : (Mark → Mark) → List Mark → ℕ → List Mark
+changed f ms n = slice_set ms n (f (mark_at ms n))
+
+-- the rows of the versions ns changed one after another, by what computes a function of a row
+abbrev pub Changes : (Mark → Mark → Type 0) → List Mark → List ℕ → List Mark → Type 0
+Changes step ms ns ms' = (f : Mark → Mark) → ((m m' : Mark) → step m m' → m' ≡ f m) → ms' ≡ fold (changed f) ms ns
+
 -- one row of the table: its high mark raised, or its low mark set
 abbrev pub raise_row : List Mark → ℕ → ℕ → List Mark
 raise_row ms c n = slice_set ms n (record { stamp = (mark_at ms n).stamp; high = c; low = (mark_at ms n).low })
@@ -78,14 +86,6 @@ lower_row ms l n = slice_set ms n (record { stamp = (mark_at ms n).stamp; high =
 -- one row more, where the table has place for it
 abbrev pub add_row : ℕ → List Mark → ℕ → List Mark
 add_row places ms c = cond (nat_lt (length ms) places) (ms ++ (new_mark c ∷ [])) ms
-
--- the row of version n changed by f, where there is one
-abbrev pub changed : (Mark → Mark) → List Mark → ℕ → List Mark
-changed f ms n = slice_set ms n (f (mark_at ms n))
-
--- the rows of the versions ns changed one after another, by what computes a function of a row
-abbrev pub Changes : (Mark → Mark → Type 0) → List Mark → List ℕ → List Mark → Type 0
-Changes step ms ns ms' = (f : Mark → Mark) → ((m m' : Mark) → step m m' → m' ≡ f m) → ms' ≡ fold (changed f) ms ns
 
 -- the same of several rows, one after another
 abbrev pub raised : List Mark → ℕ → List ℕ → List Mark
