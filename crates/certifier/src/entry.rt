@@ -12,6 +12,7 @@ pub struct DayEntry {
     pub track: Track,
 }
 
+// Kept: calls beside public fields, and the list filled as `Track` fills it, since callers may make these calls and their edits must stand.
 impl DayEntry {
     /// The console of the transaction.
     pub fn console(&self) -> u32

@@ -3,8 +3,8 @@ ghost use Rattle.std.specs.Prelude.{◌+◌, ◌*◌, ◌^◌, ◌<◌, ◌≤�
 
 use crate::Spot;
 
-// Kept: that a file is whole stands in clauses: its fields are public, and a ghost field would ask a proof of whoever builds one.
 /// A day file: the part of the input that it fills, where that begins in the input, and its trailer's numbers.
+// Kept: that it is whole stands in clauses; a ghost field would ask more of whoever builds one of its public fields.
 #[derive(Clone, Copy)]
 pub struct DayFile<'a> {
     pub part: &'a [u8],

@@ -15,7 +15,7 @@ pub use file::{DayFile, Entries};
 pub use read::unpack;
 pub use spot::Spot;
 use store::{Code, Layer};
-pub use versions::{Pairs, Versions};
+pub use versions::{Pairs, VersionList};
 
 /// Why bytes are not read as a day file, or a day file is not written.
 #[derive(Clone, Copy)]

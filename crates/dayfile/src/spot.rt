@@ -2,7 +2,7 @@
 ghost use Rattle.std.specs.Prelude.{◌≡◌};
 ghost use Rattle.dayfile.specs.Format.{fits};
 
-use crate::{Versions, head_fits};
+use crate::{VersionList, head_fits};
 
 /// Where an entry stands in a file: its place, from 1 on, and how many versions were made before it.
 #[derive(Clone, Copy)]
@@ -13,7 +13,7 @@ pub struct Spot {
 
 impl Spot {
     /// Whether the fields of an entry that stands here are in range.
-    pub fn fits<V: Versions>(self, console: u32, low: u32, reads: V, writes: V) -> bool
+    pub fn fits<V: VersionList>(self, console: u32, low: u32, reads: V, writes: V) -> bool
         ensures { result ≡ fits self.place self.bound (record { console = console; low = low; reads = V.versions reads; writes = V.versions writes }) }
     {
         head_fits(

@@ -33,7 +33,7 @@ impl Iterator for Pairs<'_> {
 }
 
 /// A list of versions, whatever it is kept in.
-pub trait Versions: Copy {
+pub trait VersionList: Copy {
     ghost versions: { Self → List ℕ };
 
     /// How many there are.
@@ -45,7 +45,7 @@ pub trait Versions: Copy {
         ensures { result ≡ below bound (versions self) };
 }
 
-impl Versions for Pairs<'_> {
+impl VersionList for Pairs<'_> {
     ghost versions = { numbers_of };
 
     #[tactic(auto, using(crate::proofs::Bytes::length_pairs))]
@@ -58,7 +58,7 @@ impl Versions for Pairs<'_> {
     }
 }
 
-impl Versions for &[u32] {
+impl VersionList for &[u32] {
     ghost versions = { λ list. list.now };
 
     fn how_many(self) -> usize {

@@ -1,3 +1,4 @@
+// Day files: the writer, and whole files written and copied.
 #![tactic(auto)]
 
 mod put;

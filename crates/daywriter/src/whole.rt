@@ -52,7 +52,7 @@ fn put_read(progress: &mut Progress, buf: &mut [u8], e: &Entry)
     requires { taking (length buf.old) (extent_of progress.old) (said e.now) ≡ gives tt }
     ensures { writer progress.new buf.new ≡ added (writer progress.old buf.old) (said e.now) }
 {
-    // Kept: an entry to write lends its versions as slices, and no heap is taken here, so they are unpacked into arrays.
+    // Kept: a copy goes through the writer, whose entries lend their versions as slices; no heap is taken here, so arrays hold them.
     let mut reads = [0u32; 64];
     let mut writes = [0u32; 16];
     let nr = unpack(e.reads, &mut reads);

@@ -51,7 +51,7 @@ fn fill_day<'a>(buf: &'a mut [u8], day: &Day) -> (&'a mut [u8], usize)
     file.close().bytes()
 }
 
-// The same, into a buffer that the caller keeps.
+// Writes the file of a day to the front of a buffer that the caller keeps, and answers how many bytes it has.
 fn put_day(buf: &mut [u8], day: &Day) -> usize
     requires { 165 * vec_len day.now.entries + 10 ≤ length buf.old }
     ensures bytes { buf.new ≡ over buf.old 0 (file_bytes (records_of day.now) (commits_of (entries_of day.now))) }

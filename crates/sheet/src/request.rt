@@ -37,6 +37,7 @@ pub(crate) enum Request {
 }
 
 // The verb that a word names.
+// Kept: an Option and no `FromStr`, since a word is any bytes, and a wrong one is refused with its column, which is not known here.
 fn verb_in(bytes: &[u8]) -> Option<Verb>
     ensures { result ≡ verb_of bytes.now }
 {
@@ -62,6 +63,7 @@ fn kind_in(bytes: &[u8]) -> Option<LogKind>
     }
 }
 
+// Kept: three methods say `Passed`, since each takes one word, which is all that it says.
 impl<'a> Words<'a> {
     // The verb that a line begins with.
     fn verb(&mut self) -> Result<Verb, Fault>
