@@ -1,26 +1,11 @@
 // A store and a log, asked in the same words.
 use crate::say::{Fault, Said, Size};
+use crate::scenes::Ask;
 use certifier::{Call, Log};
 use std::alloc::Global;
 use store::kind::Kind;
 use store::{OpenFault, Store};
 use versions::Versions;
-
-/// What takes the calls of a run: a store, or a log.
-pub(crate) trait Ask: Drop {
-    /// What the lines of its calls begin with.
-    const NAME: &'static str;
-
-    /// A fresh one, of entries 0.
-    fn fresh(heap: Global, size: Size) -> Result<Self, OpenFault>;
-
-    /// Makes the call, and says what it was answered.
-    fn ask(&mut self, call: Call<u32>) -> Result<Said, Fault>;
-
-    fn commits(&self) -> u16;
-
-    fn records(&self) -> u32;
-}
 
 impl<K: Kind> Ask for Versions<u32, K> {
     const NAME: &'static str = "store";

@@ -1,9 +1,26 @@
 // What a store and a log refuse alike.
-use crate::ask::Ask;
-use crate::say::{Answered, Size, tell};
+use crate::say::{Answered, Fault, Said, Size, tell};
 use anyhow::anyhow;
 use certifier::Call;
+use std::alloc::Global;
 use std::io;
+use store::OpenFault;
+
+/// What takes the calls of a run: a store, or a log.
+pub(crate) trait Ask: Drop {
+    /// What the lines of its calls begin with.
+    const NAME: &'static str;
+
+    /// A fresh one, of entries 0.
+    fn fresh(heap: Global, size: Size) -> Result<Self, OpenFault>;
+
+    /// Makes the call, and says what it was answered.
+    fn ask(&mut self, call: Call<u32>) -> Result<Said, Fault>;
+
+    fn commits(&self) -> u16;
+
+    fn records(&self) -> u32;
+}
 
 /// A store or a log under way, and where its lines go.
 #[derive(Drop)]

@@ -1,7 +1,6 @@
 // What a store lets through that a log refuses.
-use crate::ask::Ask;
 use crate::say::Size;
-use crate::scenes::Scene;
+use crate::scenes::{Ask, Scene};
 use certifier::Call;
 
 /// Seventeen records written in one transaction.
