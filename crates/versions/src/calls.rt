@@ -8,7 +8,7 @@ use crate::table::Table;
 use std::alloc::Global;
 use std::marker::PhantomData;
 use store::kind::Kind;
-use store::{ConsoleId, OpenFault, Refusal, Seen, Store, TableSize};
+use store::{ConsoleId, DAY, OpenFault, Refusal, Seen, Store, TableSize};
 
 impl<E: Copy, K: Kind> Store<E> for Versions<E, K> {
     ghost rules = { K.Kind.rules };
@@ -82,7 +82,7 @@ impl<E: Copy, K: Kind> Store<E> for Versions<E, K> {
     fn commit(&mut self, console: u32) -> Result<u16, Refusal> {
         let console = ConsoleId::try_from(console)?;
         self.sessions.live(console)?;
-        if self.clock >= 4000 {
+        if self.clock >= DAY {
             return Err(Refusal::DayFull);
         }
         let clock = self.clock + 1;
