@@ -22,7 +22,7 @@ pub use crate::log::Log;
 pub use crate::track::Track;
 
 /// Why a log refuses a call.
-#[derive(Clone, Copy)]
+#[derive(Clone, Copy, Debug, PartialEq, Eq)]
 pub enum LogRefusal {
     /// the console is above 15
     NoConsole,

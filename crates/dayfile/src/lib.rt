@@ -18,7 +18,7 @@ use store::{Code, Layer};
 pub use versions::{Pairs, VersionList};
 
 /// Why bytes are not read as a day file, or a day file is not written.
-#[derive(Clone, Copy)]
+#[derive(Clone, Copy, Debug, PartialEq, Eq)]
 pub enum FileRefusal {
     /// there are fewer than 10 bytes
     Short,

@@ -47,7 +47,7 @@ pub enum Seen<E> {
 }
 
 /// The layer that a refusal comes from.
-#[derive(Clone, Copy)]
+#[derive(Clone, Copy, Debug, PartialEq, Eq)]
 pub enum Layer {
     Store,
     Certifier,
@@ -73,14 +73,14 @@ impl fmt::Display for Layer {
 }
 
 /// A refusal as the table of refusals has it: its number, and the layer that it comes from.
-#[derive(Clone, Copy)]
+#[derive(Clone, Copy, Debug, PartialEq, Eq)]
 pub struct Code {
     pub number: u32,
     pub layer: Layer,
 }
 
 /// Why a store refuses a call.
-#[derive(Clone, Copy)]
+#[derive(Clone, Copy, Debug, PartialEq, Eq)]
 pub enum Refusal {
     /// the console is above 15
     NoConsole,
@@ -123,7 +123,7 @@ impl Refusal {
 }
 
 /// Why a store is not opened.
-#[derive(Clone, Copy)]
+#[derive(Clone, Copy, Debug, PartialEq, Eq)]
 pub enum OpenFault {
     /// the number of records or of places is outside its range
     Table,
