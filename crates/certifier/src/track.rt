@@ -96,7 +96,7 @@ impl Track {
 }
 
 // Whether the number is in the list.
-// Kept: all of it is read, several numbers at once: with `contains` a day with 64 reads takes 17 in a hundred longer, with `fold` 5.
+// Kept: all of it is read, several numbers at once: with `contains` a day with 64 reads takes 15 in a hundred longer, with `fold` 4.
 fn has(list: &[u32], n: u32) -> bool
     ensures { result ≡ member n list.now }
 {
