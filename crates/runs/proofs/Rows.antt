@@ -1,8 +1,10 @@
 -- The table of marks: what a commit takes from it, and what it leaves in each row.
 use Rattle.std.proofs.lemmas.Grind.{common_steps}
-use Rattle.std.proofs.Common.{◌≡◌, ℕ, ◌+◌, ◌<◌, ◌≤◌, max, Bool, true, false, cond, ◌||◌, eqb, ltb, leb, List, [], ◌∷◌, ◌++◌, map, length, set, replicate, Some, Option, sym, refl, ap, ◌∙◌, arith}
+use Rattle.std.proofs.Common.{◌≡◌, ℕ, ◌+◌, ◌<◌, ◌≤◌, max, Bool, false, cond, ◌||◌, eqb, ltb, leb, List, [], ◌∷◌, ◌++◌, map, length, set, replicate, Some, Option, sym, refl, ap, ◌∙◌, arith}
 use Rattle.std.proofs.lemmas.List.{append-nil, append_assoc, length-set, length-append, length_push, length-replicate, get_or_append_left, get_or-append_right, get_or-replicate}
 use Rattle.std.proofs.lemmas.Bool.{lt-ltb, cond-true}
+use Rattle.std.proofs.lemmas.List.Folds.{fold-map}
+use Rattle.std.specs.List.{fold}
 use Rattle.certifier.specs.declared.Mark.{Mark}
 use Rattle.certifier.specs.declared.Over.{Over}
 use Rattle.certifier.specs.Marking as marking
@@ -46,8 +48,7 @@ verdict_is ms c t = grind (arith, common_steps, high_right_lem, stamp_right_lem,
 
 -- rows changed at some places
 abbrev changed : (Mark → Mark) → List Mark → List ℕ → List Mark
-changed f ms [] = ms
-changed f ms (n ∷ ns) = changed f (set ms n (f (mark_at ms n))) ns
+changed f ms ns = fold (marking.changed f) ms ns
 
 abbrev pub raise : ℕ → Mark → Mark
 raise c m = record { stamp = m.stamp; high = c; low = m.low }
@@ -56,12 +57,10 @@ abbrev pub lower : ℕ → Mark → Mark
 lower l m = record { stamp = m.stamp; high = m.high; low = Some l }
 
 raised_is : (ms : List Mark) (c : ℕ) (ns : List ℕ) → raised ms c ns ≡ changed (raise c) ms ns
-raised_is ms c [] = refl
-raised_is ms c (n ∷ ns) = raised_is (set ms n (raise c (mark_at ms n))) c ns
+raised_is ms c ns = refl
 
 lowered_is : (ms : List Mark) (l : ℕ) (ws : List Over) → lowered ms l ws ≡ changed (lower l) ms (overs_of ws)
-lowered_is ms l [] = refl
-lowered_is ms l (w ∷ ws) = lowered_is (set ms w.version (lower l (mark_at ms w.version))) l ws
+lowered_is ms l ws = sym (fold-map (marking.changed (lower l)) (λ w. w.version) ms ws)
 
 grown_is : (places : ℕ) (ms : List Mark) (c : ℕ) (ws : List Over) → length ms + length ws ≤ places → grown places ms c ws ≡ ms ++ replicate (length ws) (new_mark c)
 grown_is places ms c [] h = sym (append-nil ms)
@@ -78,10 +77,7 @@ changed_one : (f : Mark → Mark) (ms : List Mark) (n v : ℕ) → v < length ms
 changed_one f ms n v h = grind (arith, common_steps)
 
 changed_step : (f : Mark → Mark) (twice : (m : Mark) → f (f m) ≡ f m) (a b : Bool) (m x : Mark) → x ≡ cond a (f m) m → cond b (f x) x ≡ cond (a || b) (f m) m
-changed_step f twice true true m x e = ap f e ∙ twice m
-changed_step f twice true false m x e = e
-changed_step f twice false true m x e = ap f e
-changed_step f twice false false m x e = e
+changed_step f twice a b m x e = grind (arith, common_steps)
 
 at_changed : (f : Mark → Mark) (twice : (m : Mark) → f (f m) ≡ f m) (ms : List Mark) (ns : List ℕ) (v : ℕ) → v < length ms
     → mark_at (changed f ms ns) v ≡ cond (member v ns) (f (mark_at ms v)) (mark_at ms v)
