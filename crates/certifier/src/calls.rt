@@ -56,9 +56,8 @@ impl<S: Store<E>, E: Copy> Log<S, E> {
     {
         let id = ConsoleId::try_from(console)?;
         if self.tracks.at(id).is_full() {
-            match self.store.read(console, at)? {
-                Seen::Own(_) => {}
-                Seen::Committed(_) => return Err(LogRefusal::Writes),
+            if let Seen::Committed(_) = self.store.read(console, at)? {
+                return Err(LogRefusal::Writes);
             }
         }
         let version = self.store.write(console, at, entry)?;
