@@ -15,6 +15,15 @@ mod size;
 
 pub use crate::size::{ConsoleId, TableSize};
 
+/// The most commits of a day.
+pub const DAY: u16 = 4000;
+
+/// The most records of a table.
+pub const RECORDS: u32 = 256;
+
+/// The most places of a table.
+pub const PLACES: u32 = 2048;
+
 /// One version of a record: its number, the stamp of the commit that made it, and its entry.
 #[derive(Clone, Copy)]
 pub struct Version<E> {

@@ -2,7 +2,7 @@
 ghost use Rattle.store.specs.Ranges.{Names, Measures};
 
 use crate::size::{ConsoleId, TableSize};
-use crate::{OpenFault, Refusal};
+use crate::{OpenFault, PLACES, RECORDS, Refusal};
 
 impl TryFrom<u32> for ConsoleId {
     type Error = Refusal;
@@ -24,7 +24,7 @@ impl TableSize {
     pub fn new(records: u32, places: u32) -> Result<TableSize, OpenFault>
         ensures { Measures records places result }
     {
-        if records < 1 || records > 256 || places < records || places > 2048 {
+        if records < 1 || records > RECORDS || places < records || places > PLACES {
             return Err(OpenFault::Table);
         }
         Ok(TableSize {
