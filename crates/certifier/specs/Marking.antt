@@ -13,6 +13,10 @@ pub record Track : Type 0 where
 abbrev pub no_track : Track
 no_track = record { noted = []; writes = [] }
 
+-- the track of console k
+abbrev pub track_in : List Track → ℕ → Track
+track_in ts k = slice_index_or ts k no_track
+
 -- the versions that it overwrites, as first written
 abbrev pub overs_of : List Over → List ℕ
 overs_of ws = map (λ w. w.version) ws

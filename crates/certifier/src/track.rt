@@ -1,7 +1,7 @@
 // What is kept of the open transactions, one a console.
-ghost use Rattle.std.specs.Prelude.{◌≡◌, ◌≤◌, ◌++◌, Ok, Err, length, drop, replicate, if◌then◌else◌, nat_le, slice_index_or, slice_set};
+ghost use Rattle.std.specs.Prelude.{◌≡◌, ◌≤◌, ◌++◌, Ok, Err, length, drop, replicate, if◌then◌else◌, nat_le, slice_set};
 ghost use Rattle.certifier.specs.declared.LogRefusal.TheVariants.{Reads};
-ghost use Rattle.certifier.specs.Marking.{no_track, overs_of, member, wrote, noted, notes, written};
+ghost use Rattle.certifier.specs.Marking.{no_track, track_in, overs_of, member, wrote, noted, notes, written};
 ghost use Rattle.certifier.specs.Entries.{track_of};
 ghost use Rattle.certifier.specs.Logs.{tracks_of};
 
@@ -130,7 +130,7 @@ impl Tracks {
     }
 
     pub(crate) fn at(&self, console: ConsoleId) -> &Track
-        ensures { track_of result.now ≡ slice_index_or (tracks_of self.now) console.number no_track }
+        ensures { track_of result.now ≡ track_in (tracks_of self.now) console.number }
     {
         &self.list[console.number as usize]
     }
@@ -144,15 +144,15 @@ impl Tracks {
 
     // Notes the version at the console. Refused: 5.
     pub(crate) fn note(&mut self, console: ConsoleId, n: u32) -> Result<(), LogRefusal>
-        ensures answer { result ≡ (if notes (slice_index_or (tracks_of self.old) console.number no_track) n then Ok tt else Err Reads) }
-        ensures track { tracks_of self.new ≡ (if notes (slice_index_or (tracks_of self.old) console.number no_track) n then slice_set (tracks_of self.old) console.number (noted (slice_index_or (tracks_of self.old) console.number no_track) n) else tracks_of self.old) }
+        ensures answer { result ≡ (if notes (track_in (tracks_of self.old) console.number) n then Ok tt else Err Reads) }
+        ensures track { tracks_of self.new ≡ (if notes (track_in (tracks_of self.old) console.number) n then slice_set (tracks_of self.old) console.number (noted (track_in (tracks_of self.old) console.number) n) else tracks_of self.old) }
     {
         let track = &mut self.list[console.number as usize];
         track.note(n)
     }
 
     pub(crate) fn write(&mut self, console: ConsoleId, at: u32, version: u32)
-        ensures { tracks_of self.new ≡ slice_set (tracks_of self.old) console.number (written (slice_index_or (tracks_of self.old) console.number no_track) at version) }
+        ensures { tracks_of self.new ≡ slice_set (tracks_of self.old) console.number (written (track_in (tracks_of self.old) console.number) at version) }
     {
         let track = &mut self.list[console.number as usize];
         track.write(at, version);
