@@ -3,7 +3,7 @@ use Rattle.std.proofs.lemmas.Result.{err_from_is_err_and}
 use Rattle.store.specs.Meaning.{shown_by}
 use Rattle.store.specs.Refusals.Answer.{gives}
 use Rattle.certifier.specs.Meaning.{full, track_at}
-use Rattle.certifier.specs.Logs.{log_state, tracks_of}
+use Rattle.certifier.specs.Logs.{log_state}
 use Rattle.certifier.specs.Entries.{track_of}
 use Rattle.certifier.proofs.Steps.{write_full, write_ok, write_refused, few_written, own_written}
 use Rattle.certifier.proofs.log.Log.write.Given as given
@@ -33,5 +33,5 @@ returns-in_err-version g c =
 pub returns : goal.returns
 returns g c =
     let s = log_state g.S.Store.state c.args.self.now in
-    let ok = write_ok g.S.Store.rules s c.args.console c.args.at c.args.entry c.in_ok-version.version _ (tracks_of c.write-2.new.self) (room g (goal.at.returns g c).Joined-is_full) c.in_ok-version.ensures in
+    let ok = write_ok g.S.Store.rules s c.args.console c.args.at c.args.entry c.in_ok-version.version _ c.write-2.new.self (room g (goal.at.returns g c).Joined-is_full) c.in_ok-version.ensures in
     search (rules, ok, c.in_ok-id.ensures.1)
