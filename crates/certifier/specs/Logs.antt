@@ -1,32 +1,26 @@
 -- What a log of the code stands for, and what each case of its answers does.
-use Rattle.std.specs.Prelude.{◌≡◌, ℕ, List, map, Ok, Err, vec_items, Result}
+use Rattle.std.specs.Prelude.{◌≡◌, ℕ, Ok, Err, vec_items, Result}
 use Rattle.store.specs.declared.Seen.{Seen}
 use Rattle.store.specs.declared.Seen.TheVariants as seen
 use Rattle.store.specs.declared.OpenFault.{OpenFault}
 use Rattle.store.specs.Refusals.{Answer, answer_by, open_code}
 use Rattle.store.specs.Meaning.{State, Range, Unopened}
-use Rattle.certifier.specs.declared.track.Tracks.{Tracks}
 use Rattle.certifier.specs.declared.log.Log.{Log}
 use Rattle.certifier.specs.declared.Accepted.{Accepted}
 use Rattle.certifier.specs.declared.Accepted.TheVariants as accepted
 use Rattle.certifier.specs.declared.Grant.{Grant}
 use Rattle.certifier.specs.declared.LogRefusal.{LogRefusal}
 use Rattle.certifier.specs.Refusals.{code_of}
-use Rattle.certifier.specs.Marking.{Track}
 use Rattle.certifier.specs.Rankings.{ranks_of}
 use Rattle.certifier.specs.Meaning.{LogState, Reply, opened}
-use Rattle.certifier.specs.Entries.{track_of}
 use Rattle.certifier.specs.Meaning.Reply.{begun, own, saw, overwrites, granted, dropped, refused}
-
-abbrev pub tracks_of : Tracks → List Track
-tracks_of ts = map track_of ts.list
 
 abbrev pub log_state : {S E : Type 0} → (S → State E) → Log S E → LogState E
 log_state state log = record {
   store = state log.store;
   places = log.marks.places;
   marks = vec_items log.marks.rows;
-  tracks = tracks_of log.tracks;
+  tracks = log.tracks;
   ranks = ranks_of log.ranks;
 }
 

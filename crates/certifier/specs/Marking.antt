@@ -13,6 +13,10 @@ pub record Track : Type 0 where
 abbrev pub no_track : Track
 no_track = record { noted = []; writes = [] }
 
+-- the track of console k
+abbrev pub track_in : List Track → ℕ → Track
+track_in ts k = slice_index_or ts k no_track
+
 -- the versions that it overwrites, as first written
 abbrev pub overs_of : List Over → List ℕ
 overs_of ws = map (λ w. w.version) ws
@@ -87,7 +91,7 @@ lower_row ms l n = slice_set ms n (record { stamp = (mark_at ms n).stamp; high =
 abbrev pub add_row : ℕ → List Mark → ℕ → List Mark
 add_row places ms c = cond (nat_lt (length ms) places) (ms ++ (new_mark c ∷ [])) ms
 
--- the same of several rows, one after another
+-- several rows raised, lowered or added, one after another
 abbrev pub raised : List Mark → ℕ → List ℕ → List Mark
 raised ms c ns = fold (λ rows n. raise_row rows c n) ms ns
 

@@ -1,5 +1,5 @@
 -- What a log means: its state, and what each call answers and leaves. A log is the certifier above a store of its own.
-use Rattle.std.specs.Prelude.{ℕ, ◌+◌, Bool, cond, not, ◌&&◌, List, [], ◌∷◌, ◌++◌, length, drop, replicate, is_some, nat_le, nat_lt, slice_index_or, slice_set}
+use Rattle.std.specs.Prelude.{ℕ, ◌+◌, Bool, cond, not, ◌&&◌, List, [], ◌∷◌, ◌++◌, length, drop, replicate, is_some, nat_le, nat_lt, slice_set}
 use Rattle.store.specs.declared.Layer.TheVariants.{Certifier}
 use Rattle.store.specs.declared.Code.{Code}
 use Rattle.store.specs.declared.Version.{Version}
@@ -14,7 +14,7 @@ use Rattle.certifier.specs.declared.Mark.{Mark}
 use Rattle.certifier.specs.declared.Call.{Call}
 use Rattle.certifier.specs.declared.Call.TheVariants.{Begin, Read, Write, Commit, Drop}
 use Rattle.certifier.specs.Refusals.{passed, reads_full, writes_full, unsafe, no_version, short_list}
-use Rattle.certifier.specs.Marking.{Track, no_track, overs_of, notes, noted, written, new_mark, mark_at, verdict_of, marked}
+use Rattle.certifier.specs.Marking.{Track, no_track, track_in, overs_of, notes, noted, written, new_mark, mark_at, verdict_of, marked}
 use Rattle.certifier.specs.Ranking.{Ranks, unranked, ranked, joined}
 
 -- the store's state; the marks of the versions, by number, in a table with so many places; what each console's open
@@ -39,7 +39,7 @@ pub data Reply (E : Type 0) : Type 0 where
 
 module _ {E : Type 0} where
   abbrev pub track_at : LogState E → ℕ → Track
-  track_at s k = slice_index_or s.tracks k no_track
+  track_at s k = track_in s.tracks k
 
   abbrev pub is_open : LogState E → ℕ → Bool
   is_open s k = is_some (stored.console_at s.store k)

@@ -7,7 +7,7 @@ ghost use Rattle.certifier.specs.Logs.{log_state, begin_reply, read_reply, write
 
 use crate::log::Log;
 use crate::{Accepted, Answer, Call, Grant, LogRefusal};
-use store::{ConsoleId, Refusal, Seen, Store};
+use store::{ConsoleId, DAY, Refusal, Seen, Store};
 
 impl From<Refusal> for LogRefusal {
     ghost from_gives = { λ x y. code_of y ≡ passed (store.code_of x) };
@@ -56,9 +56,8 @@ impl<S: Store<E>, E: Copy> Log<S, E> {
     {
         let id = ConsoleId::try_from(console)?;
         if self.tracks.at(id).is_full() {
-            match self.store.read(console, at)? {
-                Seen::Own(_) => {}
-                Seen::Committed(_) => return Err(LogRefusal::Writes),
+            if let Seen::Committed(_) = self.store.read(console, at)? {
+                return Err(LogRefusal::Writes);
             }
         }
         let version = self.store.write(console, at, entry)?;
@@ -75,7 +74,7 @@ impl<S: Store<E>, E: Copy> Log<S, E> {
         let stamp = self.store.clock().saturating_add(1);
         let track = self.tracks.at(id);
         let grant = self.marks.judge(stamp, track);
-        if grant.high >= grant.low && stamp <= 4000 {
+        if grant.high >= grant.low && stamp <= DAY {
             self.store.drop(console)?;
             self.tracks.clear(id);
             return Err(LogRefusal::Unsafe);

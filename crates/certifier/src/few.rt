@@ -1,5 +1,5 @@
 // A short list in a fixed array: the items are the array's first `len`.
-// Kept: arrayvec's `ArrayVec` is not Copy, and the public types `Track` and `DayEntry`, which hold such lists, are.
+// Kept: a public type promises at least what it did: `Track` and `DayEntry`, which hold such lists, are Copy, and arrayvec's `ArrayVec` is not.
 ghost use Rattle.std.specs.Prelude.{◌≡◌, ◌≤◌, ⊤};
 
 use std::alloc::AllocError;

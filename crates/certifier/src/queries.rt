@@ -50,6 +50,7 @@ impl<S: Store<E>, E: Copy> Log<S, E> {
         Ok(self.tracks.at(console).noted.as_slice())
     }
 
+    // Kept: this and `order` fill the caller's list, since no memory is taken after opening.
     /// Puts the versions that the console's open transaction overwrites, as first written, at the front of the caller's
     /// list, leaves its later places alone, and answers how many there are. Refused: 1, 14.
     pub fn overwritten(&self, console: u32, list: &mut [u32]) -> Result<usize, LogRefusal>

@@ -1,12 +1,12 @@
 // What is kept of the open transactions, one a console.
-ghost use Rattle.std.specs.Prelude.{◌≡◌, ◌≤◌, ◌++◌, Ok, Err, length, drop, replicate, if◌then◌else◌, nat_le, slice_index_or, slice_set};
+ghost use Rattle.std.specs.Prelude.{◌≡◌, ◌≤◌, ◌++◌, Ok, Err, length, drop, replicate, if◌then◌else◌, nat_le, slice_set};
 ghost use Rattle.certifier.specs.declared.LogRefusal.TheVariants.{Reads};
-ghost use Rattle.certifier.specs.Marking.{no_track, overs_of, member, wrote, noted, notes, written};
+ghost use Rattle.certifier.specs.Marking.{no_track, track_in, overs_of, member, wrote, noted, notes, written};
 ghost use Rattle.certifier.specs.Entries.{track_of};
-ghost use Rattle.certifier.specs.Logs.{tracks_of};
 
 use crate::few::Few;
 use crate::{LogRefusal, Over};
+use std::marker::Model;
 use store::ConsoleId;
 
 /// What is kept of an open transaction: the versions that it noted, and the records that it wrote.
@@ -117,12 +117,22 @@ fn has_record(list: &[Over], at: u32) -> bool
 // The tracks of the sixteen consoles.
 #[derive(Drop)]
 pub(crate) struct Tracks {
-    pub(crate) list: [Track; 16],
+    list: [Track; 16],
+}
+
+impl Model for Tracks {
+    ghost use Rattle.std.specs.Prelude.{List, map};
+    ghost use Rattle.certifier.specs.Marking.{Track};
+    ghost use Rattle.certifier.specs.Entries.{track_of};
+
+    ghost Value = { List Track };
+
+    ghost view = { λ ts. map track_of ts.list };
 }
 
 impl Tracks {
     pub(crate) fn new() -> Tracks
-        ensures { tracks_of result ≡ replicate 16 no_track }
+        ensures { result ≡ replicate 16 no_track }
     {
         Tracks {
             list: [Track::new(); 16],
@@ -130,13 +140,13 @@ impl Tracks {
     }
 
     pub(crate) fn at(&self, console: ConsoleId) -> &Track
-        ensures { track_of result.now ≡ slice_index_or (tracks_of self.now) console.number no_track }
+        ensures { track_of result.now ≡ track_in self.now console.number }
     {
         &self.list[console.number as usize]
     }
 
     pub(crate) fn clear(&mut self, console: ConsoleId)
-        ensures { tracks_of self.new ≡ slice_set (tracks_of self.old) console.number no_track }
+        ensures { self.new ≡ slice_set self.old console.number no_track }
     {
         let track = &mut self.list[console.number as usize];
         track.clear();
@@ -144,15 +154,15 @@ impl Tracks {
 
     // Notes the version at the console. Refused: 5.
     pub(crate) fn note(&mut self, console: ConsoleId, n: u32) -> Result<(), LogRefusal>
-        ensures answer { let t = slice_index_or (tracks_of self.old) console.number no_track in result ≡ (if notes t n then Ok tt else Err Reads) }
-        ensures track { let t = slice_index_or (tracks_of self.old) console.number no_track in tracks_of self.new ≡ (if notes t n then slice_set (tracks_of self.old) console.number (noted t n) else tracks_of self.old) }
+        ensures answer { result ≡ (if notes (track_in self.old console.number) n then Ok tt else Err Reads) }
+        ensures track { self.new ≡ (if notes (track_in self.old console.number) n then slice_set self.old console.number (noted (track_in self.old console.number) n) else self.old) }
     {
         let track = &mut self.list[console.number as usize];
         track.note(n)
     }
 
     pub(crate) fn write(&mut self, console: ConsoleId, at: u32, version: u32)
-        ensures { tracks_of self.new ≡ slice_set (tracks_of self.old) console.number (written (slice_index_or (tracks_of self.old) console.number no_track) at version) }
+        ensures { self.new ≡ slice_set self.old console.number (written (track_in self.old console.number) at version) }
     {
         let track = &mut self.list[console.number as usize];
         track.write(at, version);

@@ -87,10 +87,6 @@ module _ {E : Type 0} where
   write_is : (rules : Rules) (s : LogState E) (k r : ℕ) (o : Console E) → Live s k o → r < length s.store.chains → store.write_answer rules s.store k r ≡ write_at rules s o r
   write_is rules s k r o a l = grind (arith, common_steps)
 
-  lets_gives : (rules : Rules) (s : LogState E) (o : Console E) (r : ℕ) → Lets rules s o r → write_at rules s o r ≡ gives (newest_at s.store r).number
-  lets_gives rules s o r (second h) = rw h
-  lets_gives rules s o r (first h a d l) = grind (arith, common_steps)
-
   write_plays : (rules : Rules) (s : LogState E) (k r : ℕ) (e : E) (o : Console E) → Live s k o → r < length s.store.chains → full s k r ≡ false → Lets rules s o r
       → write_step rules s k r e ≡ (
         overwrites (newest_at s.store r).number,

@@ -21,13 +21,6 @@ pub struct Outcome<S, E> {
     pub entries: Vec<DayEntry>,
 }
 
-// What calls were answered, and what is kept of those that were granted commits.
-#[derive(Drop)]
-struct Played<E> {
-    answers: Vec<Answer<E>>,
-    entries: Vec<DayEntry>,
-}
-
 // What is kept of a call with this answer, which found its transaction at this track.
 fn entry_for<E: Copy>(call: &Call<E>, answer: &Answer<E>, track: Track) -> Option<DayEntry>
     ensures { map entry_by (option_to_list result) ≡ entry_for call.now (reply_of answer.now) (track_of track) }
@@ -43,6 +36,7 @@ fn entry_for<E: Copy>(call: &Call<E>, answer: &Answer<E>, track: Track) -> Optio
 }
 
 // The track of the transaction that a call asks to commit. A console above 15 is given some track: the log refuses it.
+// Kept: a track and no Option, since its definition says which track a call finds, for any call and any console.
 fn track_for<S: Store<E>, E: Copy>(log: &Log<S, E>, call: &Call<E>) -> Track
     ensures { track_of result ≡ track_for (log_state S.Store.state log.now) call.now }
 {
@@ -52,23 +46,27 @@ fn track_for<S: Store<E>, E: Copy>(log: &Log<S, E>, call: &Call<E>) -> Track
     }
 }
 
-// Makes the calls in their sequence.
+// Makes the calls on the log in their sequence, and gives the log with the answers.
 fn play<S: Store<E>, E: Copy>(
-    log: &mut Log<S, E>,
+    mut log: Log<S, E>,
     heap: Global,
     calls: &[Call<E>],
-) -> Result<Played<E>, AllocError>
-    ensures { IfOk result (λ p. Plays S.Store.rules (log_state S.Store.state log.old) calls.now (log_state S.Store.state log.new) (replies_of p.answers.items) (map entry_by p.entries.items)) }
+) -> Result<Outcome<S, E>, AllocError>
+    ensures { IfOk result (λ run. Plays S.Store.rules (log_state S.Store.state log) calls.now (log_state S.Store.state run.log) (replies_of run.answers.items) (map entry_by run.entries.items)) }
 {
     let mut answers = Vec::with_capacity(heap, calls.len())?;
     let mut entries = Vec::new(heap);
     for call in calls {
-        let track = track_for(log, call);
+        let track = track_for(&log, call);
         let answer = log.call(*call);
         entries.extend(entry_for(call, &answer, track))?;
         answers.push(answer)?;
     }
-    Ok(Played { answers, entries })
+    Ok(Outcome {
+        log,
+        answers,
+        entries,
+    })
 }
 
 /// Opens a log, makes the calls on it in their sequence, and gives the log with the answers. Refused as an opening is.
@@ -81,11 +79,6 @@ pub fn run<S: Store<E>, E: Copy>(
 ) -> Result<Outcome<S, E>, OpenFault>
     ensures { Runs S.Store.rules S.Store.state size room first calls.now result }
 {
-    let mut log: Log<S, E> = Log::open(heap, size, room, first)?;
-    let Played { answers, entries } = play(&mut log, heap, calls)?;
-    Ok(Outcome {
-        log,
-        answers,
-        entries,
-    })
+    let log = Log::open(heap, size, room, first)?;
+    Ok(play(log, heap, calls)?)
 }

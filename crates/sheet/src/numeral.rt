@@ -23,6 +23,7 @@ pub(crate) fn number(bytes: &[u8]) -> Option<u32>
     if !all_digits(bytes) || spare_zero(bytes) {
         return None;
     }
+    // Kept: a loop that ends where the number is too large; with `parse`, which was tried, both answers stay open.
     let mut n = 0u32;
     for b in bytes {
         n = n.checked_mul(10)?.checked_add(u32::from(*b - b'0'))?;

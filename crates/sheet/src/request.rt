@@ -27,6 +27,7 @@ pub(crate) enum LogKind {
     Snapshot,
 }
 
+// Kept: both cases are requests, so an enum of its own and no Result.
 /// What a well-formed line asks for.
 #[derive(Clone, Copy)]
 pub(crate) enum Request {

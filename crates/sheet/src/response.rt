@@ -12,7 +12,7 @@ use store::{Seen, Version};
 
 /// What a line prints that is not refused.
 #[derive(Clone, Copy)]
-pub enum Success {
+pub(crate) enum Success {
     /// nothing more is to say
     Done,
     /// a begin stamp, or the number of a version that will be overwritten

@@ -39,6 +39,7 @@ pub struct Pending<E> {
     pub entry: E,
 }
 
+// Kept: an enum and no Result, since both cases are answers and neither is a lack.
 /// What a read answers: the console's own pending entry, or a committed version.
 #[derive(Clone, Copy)]
 pub enum Seen<E> {
@@ -163,6 +164,7 @@ pub trait Store<E>: Drop {
 
     /// Opens a store of `size` records, each at the entry `first`, with `room` places for versions. It takes all its
     /// memory here. Refused: 12 where `size` is not 1 to 256 or `room` not `size` to 2,048; want of memory.
+    // Kept: plain numbers, since any may be asked for, and those out of range are refused; a `TableSize` is what was checked.
     fn open(heap: Global, size: u32, room: u32, first: E) -> Result<Self, OpenFault>
         ensures { Opens state size room first result };
 

@@ -13,9 +13,7 @@ impl Marks {
     {
         let places = usize::from(size.places);
         let mut rows = Vec::with_capacity(heap, places)?;
-        for _i in 0..size.records {
-            rows.push_reserved(Mark::new(0));
-        }
+        rows.resize(usize::from(size.records), Mark::new(0))?;
         Ok(Marks { places, rows })
     }
 }

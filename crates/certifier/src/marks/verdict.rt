@@ -63,8 +63,8 @@ impl Marks {
     pub(crate) fn judge(&self, stamp: u16, track: &Track) -> Grant
         ensures { result ≡ verdict_of self.now.rows.items stamp (track_of track.now) }
     {
-        let (low, noted) = self.weigh(stamp, track.noted());
-        let high = self.top_high(noted, track.writes.as_slice());
+        let (low, newest) = self.weigh(stamp, track.noted());
+        let high = self.top_high(newest, track.writes.as_slice());
         Grant { stamp, low, high }
     }
 

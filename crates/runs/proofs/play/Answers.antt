@@ -17,7 +17,7 @@ loop-call-preserved g c =
     let old = vec_items c.loop-call.entries in
     let more = kept.3.0 ∙ ap (λ (es : List DayEntry). old ++ es) (drained kept.1 ends (YieldsList-from_once c.entry_for.result kept.2.0)) in
     let filed = ap (map entry_by) more ∙ (map-append entry_by old (option_to_list c.entry_for.result) ∙ ap (λ (es : List Entry). map entry_by old ++ es) c.entry_for.ensures) in
-    turn g.S.Store.rules (log_state g.S.Store.state c.args.log.now) c.args.calls.now (log_state g.S.Store.state c.loop-call.log)
+    turn g.S.Store.rules (log_state g.S.Store.state c.args.log) c.args.calls.now (log_state g.S.Store.state c.loop-call.log)
     (log_state g.S.Store.state c.call-answer.new.self) c.loop-call.call-index c.call-item.result c.call-answer.result
     (track_of c.track_for-track.result) (vec_items c.loop-call.answers) (vec_items c.push.new.self)
     (map entry_by (vec_items c.loop-call.entries)) (map entry_by (vec_items c.extend.new.self)) c.loop-call-test.true c.call-item.is
@@ -25,6 +25,6 @@ loop-call-preserved g c =
 
 pub returns : goal.returns
 returns g c =
-    ended g.S.Store.rules (log_state g.S.Store.state c.args.log.now) c.args.calls.now (log_state g.S.Store.state c.loop-call.log)
+    ended g.S.Store.rules (log_state g.S.Store.state c.args.log) c.args.calls.now (log_state g.S.Store.state c.loop-call.log)
     c.loop-call.call-index (replies_of (vec_items c.loop-call.answers)) (map entry_by (vec_items c.loop-call.entries)) c.loop-call-test.false
     c.loop-call.invariant

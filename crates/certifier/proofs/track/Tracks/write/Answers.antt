@@ -5,5 +5,6 @@ use Rattle.certifier.proofs.track.Tracks.write.Goals as goal
 
 pub returns : goal.returns
 returns c =
-    let t = tracks_get c.args.self.now.list c.args.console.number c.index-self-console.result (search rules) in
-    tracks_set c.args.self.now.list c.args.console.number c.write.new.self _ (c.write.ensures ∙ ap (λ (u : Track). written u c.args.at c.args.version) (sym t))
+    let t = tracks_get c.self.inside.list c.args.console.number c.index-self-console.result (search rules) in
+    rw (← c.self.view_is)
+    (tracks_set c.self.inside.list c.args.console.number c.write.new.self _ (c.write.ensures ∙ ap (λ (u : Track). written u c.args.at c.args.version) (sym t)))
