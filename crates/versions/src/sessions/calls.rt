@@ -46,7 +46,7 @@ impl<E: Copy> Sessions<E> {
             return None;
         }
         let hold = self.find(at)?;
-        if hold.console.number != console.number {
+        if hold.console != console {
             return None;
         }
         Some(pending[hold.place as usize].entry)
