@@ -114,7 +114,7 @@ fn play_stretch<S: Store<u32>>(
     }
 }
 
-// The same above a store of the kind that the open asked for.
+// Plays a stretch on a log above a store of the kind that its open asked for.
 fn play_kind(
     heap: Global,
     stretch: &Stretch,
