@@ -5,13 +5,10 @@ use certifier::{Accepted, Log, LogRefusal};
 use dice::Dice;
 use std::alloc::{AllocError, Global};
 use std::collections::BTreeMap;
-use store::{Seen, Store};
+use store::{PLACES, Seen, Store};
 
 /// The jobs of a day.
 pub(crate) const JOBS: u32 = 1200;
-
-// The log's places for versions.
-const ROOM: u32 = 2048;
 
 /// How often a refusal came.
 #[derive(Clone, Copy)]
@@ -48,7 +45,7 @@ impl<S: Store<u32>> Day<S> {
     /// A day on a fresh log, before its first call.
     pub(crate) fn open(heap: Global) -> anyhow::Result<Day<S>> {
         Ok(Day {
-            log: Log::open(heap, TRAINS, ROOM, 0).map_err(|_| anyhow!("no log"))?,
+            log: Log::open(heap, TRAINS, PLACES, 0).map_err(|_| anyhow!("no log"))?,
             dice: Dice::new(7),
             tasks: [None; 16],
             waiting: JOBS,

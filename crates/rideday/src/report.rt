@@ -4,7 +4,7 @@ use crate::job::TRAINS;
 use anyhow::{bail, ensure};
 use certifier::LogRefusal;
 use std::{fmt, io};
-use store::{Refusal, Store};
+use store::{DAY, Refusal, Store};
 
 // The name of a refusal.
 #[derive(Clone, Copy)]
@@ -74,11 +74,11 @@ impl<S: Store<u32>> Day<S> {
 
     /// The first and the last commits of the order.
     pub(crate) fn order(&self, rt: HostRuntime) -> anyhow::Result<()> {
-        let mut list = [0u32; 4000];
+        let mut list = [0u32; DAY as usize];
         let Ok(count) = self.log.order(&mut list) else {
             bail!("the list is short");
         };
-        let end = usize::from(count).min(4000);
+        let end = usize::from(count).min(list.len());
         let few = end.min(12);
         stamps(rt, "first", &list[0..few])?;
         stamps(rt, "last", &list[end - few..end])?;

@@ -4,13 +4,13 @@
 
 use anyhow::bail;
 use filing::show_file;
-use sheet::{answer_sheet, file_sheet};
+use sheet::{LIMIT, answer_sheet, file_sheet};
 use std::env;
 use std::io::{Read, Write};
 use std::str::FromStr;
 
-// A sheet has no more bytes; one more shows that it is longer.
-const MOST: u64 = 32769;
+// The bytes that are read of a sheet: by one more than its limit it shows that it is longer.
+const MOST: u64 = LIMIT as u64 + 1;
 
 const USAGE: &str = "usage: ridelog < SHEET          answers the call sheet
        ridelog file < SHEET     writes the day file that the sheet leaves
@@ -53,6 +53,7 @@ fn read(rt: &HostRuntime, mut input: impl Read + Drop) -> anyhow::Result<Vec<u8>
     Ok(bytes)
 }
 
+// Does what is asked for.
 fn perform(rt: &HostRuntime, task: Task) -> anyhow::Result<()> {
     match task {
         Task::Sheet => {

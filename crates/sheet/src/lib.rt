@@ -20,8 +20,8 @@ mod print;
 mod request;
 mod response;
 
-// A longer sheet is not read.
-const LIMIT: usize = 32768;
+/// A sheet of more bytes is not read.
+pub const LIMIT: usize = 32768;
 
 /// What a call sheet prints: a line for each of its lines, and where a log is open at the end, the commits by rank.
 /// Any bytes may come; a sheet of more than 32,768 is not read, and prints `long`. Fails where there is no memory.

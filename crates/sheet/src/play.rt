@@ -19,11 +19,8 @@ use filing::{Day, DayRun, run_day};
 use std::alloc::{AllocError, Global};
 use std::slice::Iter;
 use store::kind::{Newest, Snapshot};
-use store::{OpenFault, Store};
+use store::{DAY, OpenFault, Store};
 use versions::Versions;
-
-// A day has no more commits.
-const DAY: usize = 4000;
 
 /// What is left of a log at the end of its stretch: its commit stamps by rank, and its day.
 #[derive(Drop)]
@@ -85,7 +82,7 @@ fn add_responses(
 fn stamps_of<S: Store<u32>>(heap: Global, log: &Log<S, u32>) -> Result<Vec<u32>, AllocError>
     ensures { IfOk result (λ v. v.items ≡ stamps_by_rank (log_state S.Store.state log.now)) }
 {
-    let mut stamps = vec![in heap; 0; DAY]?;
+    let mut stamps = vec![in heap; 0; usize::from(DAY)]?;
     let Ok(count) = log.order(stamps.as_mut_slice()) else {
         unreachable()
     };
@@ -117,7 +114,7 @@ fn play_stretch<S: Store<u32>>(
     }
 }
 
-// The same above a store of the kind that the open asked for.
+// Plays a stretch on a log above a store of the kind that its open asked for.
 fn play_kind(
     heap: Global,
     stretch: &Stretch,

@@ -2,7 +2,7 @@
 #![tactic(auto)]
 
 use filing::show_file;
-use sheet::file_sheet;
+use sheet::{LIMIT, file_sheet};
 use std::io;
 
 const SKEW: &[u8] =
@@ -34,7 +34,7 @@ fn day(rt: HostRuntime, name: &str, sheet: &[u8]) -> anyhow::Result<()> {
 
 // A sheet that is one byte too long.
 fn long(rt: HostRuntime) -> anyhow::Result<()> {
-    let sheet = vec![in rt.alloc(); b' '; 32769]?;
+    let sheet = vec![in rt.alloc(); b' '; LIMIT + 1]?;
     day(rt, "a sheet that is too long", sheet.as_slice())
 }
 

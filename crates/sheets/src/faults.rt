@@ -1,8 +1,6 @@
 // The edges of the format: lines, words, numbers, bytes, and the length of a sheet.
 use crate::show;
-
-// The longest sheet that is read.
-const MOST: usize = 32768;
+use sheet::LIMIT;
 
 // Sheets by their names: on lines, on words, and on numbers and openings.
 const SHEETS: [(&str, &str); 14] = [
@@ -67,6 +65,6 @@ pub(crate) fn show_all(rt: HostRuntime) -> anyhow::Result<()> {
         show(rt, name, sheet.as_bytes())?;
     }
     every_byte(rt)?;
-    long_line(rt, MOST)?;
-    long_line(rt, MOST + 1)
+    long_line(rt, LIMIT)?;
+    long_line(rt, LIMIT + 1)
 }

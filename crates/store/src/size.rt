@@ -5,7 +5,7 @@ ghost use Rattle.store.specs.Meaning.{Range};
 mod checks;
 
 /// The number of one of the sixteen consoles.
-#[derive(Clone, Copy)]
+#[derive(Clone, Copy, PartialEq, Eq)]
 pub struct ConsoleId {
     pub number: u32,
     ghost few: { number < 16 },

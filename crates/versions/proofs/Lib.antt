@@ -1,3 +1,4 @@
+pub mod Ids
 pub mod Ways
 pub mod Distinct
 pub mod Picks

@@ -61,7 +61,7 @@ impl<E: Copy, K: Kind> Store<E> for Versions<E, K> {
         let newest = self.table.newest(at);
         match self.sessions.find(at) {
             Some(hold) => {
-                if hold.console.number != console.number {
+                if hold.console != console {
                     return Err(Refusal::Held);
                 }
                 self.sessions.replace(hold, at, entry);

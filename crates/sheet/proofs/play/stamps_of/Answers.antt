@@ -19,6 +19,6 @@ returns g c =
     let items = c.in_ok-stamps.stamps.items in
     let whole : take c.in_ok-stamps.stamps.len (list ++ drop (length list) items) ≡ list =
     take_at list (drop (length list) items) c.in_ok-stamps.stamps.len (omega (arith, c.as_mut_slice.ensures.len, c.order.auto.list)) in
-    let cut : c.truncate.new.self.items ≡ take c.from.result list = rw whole at c.truncate.ensures.items in
-    let count : take c.from.result list ≡ take c.in-Ok.count list = ap (λ k. take k list) c.from.ensures in
+    let cut : c.truncate.new.self.items ≡ take c.from-2.result list = rw whole at c.truncate.ensures.items in
+    let count : take c.from-2.result list ≡ take c.in-Ok.count list = ap (λ k. take k list) c.from-2.ensures in
     cut ∙ count ∙ order_stamps (log_state g.S.Store.state log) c.as_mut_slice.result.now list c.in-Ok.count c.in-Ok.ensures fits log.ranks.counted

@@ -2,16 +2,17 @@ use Rattle.std.proofs.Common.{sym, ap, ◌∙◌, rules, arith}
 use Rattle.std.proofs.lemmas.Grind.{common_steps}
 use Rattle.store.proofs.Pendings.{any_some, none_any}
 use Rattle.versions.specs.Sessions.{consoles_of}
+use Rattle.versions.proofs.Ids.{different, alike}
 use Rattle.versions.proofs.Kepts.{held_here, not_there}
 use Rattle.versions.proofs.Totals.{total_same, total_more}
 use Rattle.versions.proofs.calls.VersionsStore.write.Goals as goal
 
-pub returns-then-hold-console : goal.returns-then-hold-console
-returns-then-hold-console g c =
+pub returns-then-ne : goal.returns-then-ne
+returns-then-ne g c =
     let a = c.args.self.now.sessions in
     let h = c.in-Some.hold in
     let f = c.in-Some.ensures in
-    let own = not_there a c.args.at h.console.number h.place f.0 f.1 c.in_ok-console.console.number (λ e. omega arith) in
+    let own = not_there a c.args.at h.console.number h.place f.0 f.1 c.in_ok-console.console.number (different h.console.number c.in_ok-console.console.number (sym c.if-ne.true ∙ c.ne.ensures)) in
     let any = any_some (consoles_of a) c.args.at h.console.number (held_here a c.args.at h.console.number h.place f.0 f.1) in
     search rules
 
@@ -41,9 +42,10 @@ invariant_of-self-in-None-clause-used g c =
     let room = c.args.self.now.used in
     omega arith
 
-pub returns-else-hold-console : goal.returns-else-hold-console
-returns-else-hold-console g c =
+pub returns-else-ne : goal.returns-else-ne
+returns-else-ne g c =
     let h = c.in-Some.hold in
     let f = c.in-Some.ensures in
     let own = held_here c.args.self.now.sessions c.args.at h.console.number h.place f.0 f.1 in
+    let same = alike h.console.number c.in_ok-console.console.number (sym c.if-ne.false ∙ c.ne.ensures) in
     search rules
