@@ -137,6 +137,7 @@ pub(crate) fn play(heap: Global, items: &[Item]) -> Result<Played, AllocError>
     let mut responses = Vec::new(heap);
     add_responses(before, &[], &mut responses)?;
     let mut ending = None;
+    // Kept: with `successors`, which was tried, that the stretches end stays open.
     while let Some(stretch) = stretch_of(rest) {
         ending = Some(play_kind(heap, &stretch, &mut responses)?);
         rest = stretch.behind;
