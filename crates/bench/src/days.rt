@@ -44,7 +44,7 @@ impl<S: Store<u32>> Day<S> {
         }
     }
 
-    // What makes a call gives a number of its answer.
+    // Each makes one call and gives a number that stands for its answer.
     // Kept: the log's own calls; by `Log::call` a transaction of `alone newest` took 83 ns and not 62, of `reads-16` 290 and not 174.
     fn begin(&mut self, console: u32) -> u32 {
         let stamp = self.log.begin(console).map(u32::from);

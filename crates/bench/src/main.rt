@@ -20,7 +20,7 @@ type NewestLog = Versions<u32, Newest>;
 type SnapshotLog = Versions<u32, Snapshot>;
 
 /// What the program is asked for.
-// Kept: an enum and no Option of `Shown`, since to open a log is no want of lines.
+// Kept: no Option of `Shown`, since its None would stand for opening a log.
 #[derive(Clone, Copy)]
 enum Wanted {
     Lines(Shown),

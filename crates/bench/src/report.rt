@@ -86,6 +86,7 @@ impl Report {
         Ok(())
     }
 
+    // The line of a plan's counts.
     fn counts(&self, kind: &str, plan: &Plan, tally: &Tally) -> io::Result<()> {
         let name = plan.name;
         let Tally { granted, sum, .. } = tally;
