@@ -7,8 +7,8 @@ ghost use Rattle.filing.specs.Showing.{numbers_text};
 
 use std::alloc::AllocError;
 
-/// Prints the numbers that an iterator gives, each after a space.
-pub fn print_numbers<I: Iterator<Item = u32> + Drop>(
+// Prints the numbers that an iterator gives, each after a space.
+pub(crate) fn print_each<I: Iterator<Item = u32> + Drop>(
     text: &mut String,
     numbers: I,
 ) -> Result<(), AllocError>
@@ -20,4 +20,11 @@ pub fn print_numbers<I: Iterator<Item = u32> + Drop>(
         write!(text, " {number}")?;
     }
     Ok(())
+}
+
+/// Prints the numbers of a list, each after a space.
+pub fn print_numbers(text: &mut String, numbers: &[u32]) -> Result<(), AllocError>
+    ensures { OnOk result (Appends text.old text.new (numbers_text numbers.now)) }
+{
+    print_each(text, numbers.iter().copied())
 }

@@ -7,7 +7,7 @@ ghost use Rattle.store.specs.Refusals.Answer.{gives, refuses};
 ghost use Rattle.filing.specs.Appending.{Appends};
 ghost use Rattle.filing.specs.Showing.{head_text, entry_text, said_text, answer_text, shown_of};
 
-use crate::numbers::print_numbers;
+use crate::numbers::print_each;
 use dayfile::{DayFile, Entry, FileRefusal};
 use std::alloc::{AllocError, Global};
 
@@ -20,9 +20,9 @@ fn print_entry(text: &mut String, place: usize, entry: &Entry) -> Result<(), All
         "{place} console {} low {} reads",
         entry.console, entry.low
     )?;
-    print_numbers(text, entry.noted())?;
+    print_each(text, entry.noted())?;
     text.push_str(" writes")?;
-    print_numbers(text, entry.overwritten())?;
+    print_each(text, entry.overwritten())?;
     text.push_str("\n")?;
     Ok(())
 }

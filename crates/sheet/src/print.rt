@@ -33,6 +33,6 @@ pub(crate) fn print_order(text: &mut String, stamps: &[u32]) -> Result<(), Alloc
     ensures { OnOk result (Appends text.old text.new (codes "order" ++ stamps_text stamps.now)) }
 {
     text.push_str("order")?;
-    print_numbers(text, stamps.iter().copied())?;
+    print_numbers(text, stamps)?;
     text.push_str("\n")
 }

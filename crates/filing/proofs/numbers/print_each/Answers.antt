@@ -2,7 +2,7 @@ use Rattle.std.proofs.Common.{◌≡◌, ◌++◌, codes, decimal, string_bytes,
 use Rattle.std.proofs.iter.runs.Made.{run_of_exit}
 use Rattle.filing.specs.Showing.{numbers_text}
 use Rattle.filing.proofs.Appends.{append_number}
-use Rattle.filing.proofs.numbers.print_numbers.Goals as goal
+use Rattle.filing.proofs.numbers.print_each.Goals as goal
 
 pub loop-number-preserved : goal.loop-number-preserved
 loop-number-preserved g c =
