@@ -11,6 +11,7 @@ use Rattle.certifier.specs.declared.Accepted.TheVariants as accepted
 use Rattle.certifier.specs.declared.Grant.{Grant}
 use Rattle.certifier.specs.declared.LogRefusal.{LogRefusal}
 use Rattle.certifier.specs.Refusals.{code_of}
+use Rattle.certifier.specs.Rankings.{ranks_of}
 use Rattle.certifier.specs.Meaning.{LogState, Reply, opened}
 use Rattle.certifier.specs.Meaning.Reply.{begun, own, saw, overwrites, granted, dropped, refused}
 
@@ -20,7 +21,7 @@ log_state state log = record {
   places = log.marks.places;
   marks = vec_items log.marks.rows;
   tracks = log.tracks;
-  ranks = log.ranks;
+  ranks = ranks_of log.ranks;
 }
 
 abbrev pub answer_of : {A : Type 0} → Result A LogRefusal → Answer A
