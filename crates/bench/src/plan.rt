@@ -19,7 +19,8 @@ pub(crate) struct Plan {
     /// a power of two
     pub(crate) records: u32,
     pub(crate) room: u32,
-    /// reads of a transaction; by `Chains` the rounds of reads over all records
+    /// reads of a transaction; by `Chains` the rounds of reads over all records; `Wide` has four reads always
+    // Kept: by a `Shape` with fields, which prints the same, a read of `chains` took 2,435 ns and not 2,363 on a loaded machine.
     pub(crate) reads: u32,
     /// of so many transactions of a console, a power of two, the first writes
     pub(crate) every: u32,
