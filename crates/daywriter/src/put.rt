@@ -20,6 +20,7 @@ fn put_list(buf: &mut [u8], at: usize, xs: &[u32])
     requires small { below 65536 xs.now ≡ true }
     ensures { buf.new ≡ over buf.old at (twos xs.now) }
 {
+    // Kept: by places; after `chunks_exact_mut` in a `zip` nothing is known of the buffer.
     for (i, x) in xs.iter().enumerate() {
         put(buf, at + 2 * i, &(*x as u16).to_be_bytes());
     }

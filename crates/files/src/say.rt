@@ -52,6 +52,7 @@ fn numbers(rt: HostRuntime, versions: Pairs) -> io::Result<()> {
     Ok(())
 }
 
+// Kept: where to print, and a buffer, as parameters; a struct of the two would be made anew for each call.
 /// Prints what a call that fills a buffer answered, and the buffer in base sixteen.
 pub(crate) fn filled(
     rt: HostRuntime,

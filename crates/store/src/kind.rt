@@ -4,6 +4,7 @@ ghost use Rattle.store.specs.Meaning.{Rules, Inside};
 ghost use Rattle.store.specs.Kinds.{Tested, newest_rules, snapshot_rules};
 ghost use Rattle.store.specs.Lasts.{newest_inside, newest_tested, snapshot_inside, snapshot_tested};
 
+// Kept: both rules take two stamps as numbers, since they compare just these two; a struct of them would be made for each version.
 /// A kind of store: its two rules. A read shows the last version whose stamp passes a test against the begin stamp.
 pub trait Kind: Drop {
     ghost rules: { Rules };

@@ -28,6 +28,7 @@ impl Marks {
         ensures low { result.0 ≡ low_mark self.now.rows.items stamp noted.now }
         ensures high { result.1 ≡ top_stamp self.now.rows.items 0 noted.now }
     {
+        // Kept: one loop for both marks, so that each noted version is looked up once; a fold over a pair is no plainer.
         let mut low = stamp;
         let mut high = 0;
         for n in noted {
@@ -52,6 +53,7 @@ impl Marks {
         ensures places { self.new.places ≡ self.old.places }
         ensures rows { self.new.rows.items ≡ grown self.old.places self.old.rows.items stamp writes.now }
     {
+        // Kept: `push_reserved` cannot fail; `resize` would answer a Result.
         for _write in writes {
             if self.rows.len() < self.places {
                 self.rows.push_reserved(Mark::new(stamp));
@@ -106,6 +108,7 @@ fn change_each<I: Iterator<Item = u32> + Drop, F: Fn(Mark) -> Mark>(
     requires callable { F.IsAlwaysCallable change }
     ensures { ((ns : List ℕ) × Drains I.next_gives numbers ns × Changes (F.post change) rows.old ns rows.new) }
 {
+    // Kept: by an index, since after `get_mut` nothing is known of the rows.
     for n in numbers {
         let n = n as usize;
         if n < rows.len() {
