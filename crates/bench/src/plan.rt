@@ -20,7 +20,7 @@ pub(crate) struct Plan {
     pub(crate) records: u32,
     pub(crate) room: u32,
     /// reads of a transaction; by `Chains` the rounds of reads over all records; `Wide` has four reads always
-    // Kept: by a `Shape` with fields, which prints the same, a read of `chains` took 2,435 ns and not 2,363 on a loaded machine.
+    // Kept: by a `Shape` with fields a transaction of `crowded snapshot` took 97 ns and not 72, of `wide snapshot` 88 and not 78.
     pub(crate) reads: u32,
     /// of so many transactions of a console, a power of two, the first writes
     pub(crate) every: u32,
