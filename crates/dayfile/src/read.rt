@@ -23,7 +23,7 @@ impl Trailer {
     fn read(tail: &[u8; 10]) -> Option<Trailer>
         ensures { MatchOption result (marked tail.now ≡ false) (λ t. Says tail.now t.records t.count t.len) }
     {
-        let [0x52, 0x54, rh, rl, nh, nl, a, b, c, d] = *tail else {
+        let [0x52, 0x54, rh, rl, nh, nl, a, b, c, d, ..] = *tail else {
             return None;
         };
         Some(Trailer {
@@ -87,7 +87,9 @@ impl<'a> Entries<'a> {
     fn front(&self) -> Option<(Entry<'a>, &'a [u8])>
         ensures { option_map (λ p. (said p.0, p.1.now)) result ≡ entry_at self.now.spot.place self.now.spot.bound self.now.rest.now }
     {
-        let ([console, reads, writes, high, low], rest) = self.rest.split_first_chunk::<5>()?;
+        let [console, reads, writes, high, low, rest @ ..] = self.rest else {
+            return None;
+        };
         let noted = 2 * usize::from(*reads);
         let (versions, after) = rest.split_at_checked(noted + 2 * usize::from(*writes))?;
         let (reads, writes) = versions.split_at(noted);

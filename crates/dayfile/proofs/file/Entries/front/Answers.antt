@@ -1,6 +1,6 @@
-use Rattle.std.proofs.Common.{◌≡◌, ℕ, ◌+◌, ◌*◌, ◌<◌, cond, Some, None, length, get_or, take, drop, ap, ◌∙◌, arith, lit<, List, Bor}
+use Rattle.std.proofs.Common.{◌≡◌, ℕ, ◌+◌, ◌*◌, cond, Some, None, length, get_or, take, drop, refl, ap, ◌∙◌, arith, ltb-false, List, Bor}
 use Rattle.std.specs.Option.{option_map}
-use Rattle.std.proofs.lemmas.List.{get_or-take}
+use Rattle.std.proofs.lemmas.List.{take_rest}
 use Rattle.dayfile.specs.declared.Entry.{Entry}
 use Rattle.dayfile.specs.Format.{Commit, fits}
 use Rattle.dayfile.specs.Said.{said}
@@ -11,20 +11,18 @@ pub returns : goal.returns
 returns c =
     let w = c.args.self.now in
     let xs = w.rest.now in
-    let head = c.in_ok-console.field-0-0.now in
-    let five = c.in_ok-console.ensures.cases in
+    let rest = take_rest xs 5 in
     let part = c.in_ok-versions.ensures.cases in
-    let at : (i : ℕ) → i < 5 → get_or head i 0 ≡ get_or xs i 0 = λ i l. ap (λ l. get_or l i 0) five.0 ∙ get_or-take 5 xs i 0 l in
-    let nr = c.from-noted.ensures ∙ at 1 (lit< tt) in
-    let nw = c.from.ensures ∙ at 2 (lit< tt) in
-    let e : Entry = record { console = get_or head 0 0; low = c.from_be_bytes.result; reads = c.split_at.result.0; writes = c.split_at.result.1 } in
+    let nr = c.from-noted.ensures in
+    let nw = c.from.ensures in
+    let e : Entry = record { console = get_or xs 0 0; low = c.from_be_bytes.result; reads = c.split_at.result.0; writes = c.split_at.result.1 } in
     let cut : Cut xs e c.in_ok-versions.versions.now c.in_ok-versions.after.now = record {
-      long = omega (arith, five.2);
-      room = omega (arith, nr, nw, ap length five.1, part.0);
-      console = at 0 (lit< tt);
-      low = c.from_be_bytes.ensures ∙ (λ i. at 3 (lit< tt) i * 256 + at 4 (lit< tt) i);
-      cut = part.1 ∙ (λ i. take (2 * nr i + 2 * nw i) (five.1 i));
-      left = part.2 ∙ (λ i. drop (2 * nr i + 2 * nw i) (five.1 i));
+      long = omega (arith, ltb-false);
+      room = omega (arith, nr, nw, ap length rest, part.0);
+      console = refl;
+      low = c.from_be_bytes.ensures;
+      cut = part.1 ∙ (λ i. take (2 * nr i + 2 * nw i) (rest i));
+      left = part.2 ∙ (λ i. drop (2 * nr i + 2 * nw i) (rest i));
       reads = c.split_at.ensures.front ∙ ap (λ k. take (2 * k) c.in_ok-versions.versions.now) nr;
       writes = c.split_at.ensures.back ∙ ap (λ k. drop (2 * k) c.in_ok-versions.versions.now) nr;
     } in
