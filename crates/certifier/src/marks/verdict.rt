@@ -1,5 +1,5 @@
 // What a commit asks of the table of marks, and what it leaves there.
-ghost use Rattle.std.specs.Prelude.{◌≡◌, ℕ, List, length, if◌then◌else◌, Some, None, nat_lt};
+ghost use Rattle.std.specs.Prelude.{◌≡◌, ℕ, [], ◌∷◌, List, length, if◌then◌else◌, Some, None, nat_lt};
 ghost use Rattle.std.specs.Iterator.{IsFinite, Drains};
 ghost use Rattle.certifier.specs.Entries.{track_of};
 ghost use Rattle.certifier.specs.Marking.{mark_at, low_mark, top_stamp, top_high, raised, lowered, Changes, grown, marked, verdict_of};
@@ -70,49 +70,61 @@ impl Marks {
         Grant { stamp, low, high }
     }
 
+    // Changes the row of version n, if the table has it.
+    // Kept: a row changes through a method of the table, a rule of the project, so five methods say that `places` stays.
+    // Kept: by an index, since after `get_mut` nothing is known of the rows.
+    fn change<F: Fn(Mark) -> Mark>(&mut self, n: u32, change: &F)
+        requires { F.IsAlwaysCallable change.now }
+        ensures places { self.new.places ≡ self.old.places }
+        ensures row { Changes (F.post change.now) self.old.rows.items (n ∷ []) self.new.rows.items }
+    {
+        let n = n as usize;
+        if n < self.rows.len() {
+            self.rows[n] = change(self.rows[n]);
+        }
+    }
+
+    // Changes the row of each numbered version that the table has.
+    fn change_each<I: Iterator<Item = u32> + Drop, F: Fn(Mark) -> Mark>(
+        &mut self,
+        numbers: I,
+        change: F,
+    )
+        requires can { I.can_next numbers }
+        requires ends { IsFinite (I.remaining numbers) }
+        requires callable { F.IsAlwaysCallable change }
+        ensures places { self.new.places ≡ self.old.places }
+        ensures rows { ((ns : List ℕ) × Drains I.next_gives numbers ns × Changes (F.post change) self.old.rows.items ns self.new.rows.items) }
+    {
+        for n in numbers {
+            self.change(n, &change);
+        }
+    }
+
+    // Sets the high marks of the noted versions, and the low marks of the overwritten ones.
+    fn mark_each(&mut self, grant: Grant, track: &Track)
+        ensures places { self.new.places ≡ self.old.places }
+        ensures rows { self.new.rows.items ≡ lowered (raised self.old.rows.items grant.stamp (track_of track.now).noted) grant.low (track_of track.now).writes }
+    {
+        let raise = |mark: Mark| Mark {
+            high: grant.stamp,
+            ..mark
+        };
+        let lower = |mark: Mark| Mark {
+            low: Some(grant.low),
+            ..mark
+        };
+        self.change_each(track.noted().iter().copied(), raise);
+        let writes = track.writes.as_slice();
+        self.change_each(writes.iter().map(|write| write.version), lower);
+    }
+
     // The marks after the commit.
     pub(crate) fn settle(&mut self, grant: Grant, track: &Track)
         ensures places { self.new.places ≡ self.old.places }
         ensures rows { self.new.rows.items ≡ marked self.old.places self.old.rows.items grant.stamp grant.low (track_of track.now) }
     {
-        mark_each(&mut self.rows, grant, track);
+        self.mark_each(grant, track);
         self.add_all(grant.stamp, track.writes.as_slice());
-    }
-}
-
-// Sets the high marks of the noted versions, and the low marks of the overwritten ones.
-fn mark_each(rows: &mut [Mark], grant: Grant, track: &Track)
-    ensures { rows.new ≡ lowered (raised rows.old grant.stamp (track_of track.now).noted) grant.low (track_of track.now).writes }
-{
-    let raise = |mark: Mark| Mark {
-        high: grant.stamp,
-        ..mark
-    };
-    let lower = |mark: Mark| Mark {
-        low: Some(grant.low),
-        ..mark
-    };
-    change_each(rows, track.noted().iter().copied(), raise);
-    let writes = track.writes.as_slice();
-    change_each(rows, writes.iter().map(|write| write.version), lower);
-}
-
-// Changes the row of each numbered version that the table has.
-fn change_each<I: Iterator<Item = u32> + Drop, F: Fn(Mark) -> Mark>(
-    rows: &mut [Mark],
-    numbers: I,
-    change: F,
-)
-    requires can { I.can_next numbers }
-    requires ends { IsFinite (I.remaining numbers) }
-    requires callable { F.IsAlwaysCallable change }
-    ensures { ((ns : List ℕ) × Drains I.next_gives numbers ns × Changes (F.post change) rows.old ns rows.new) }
-{
-    // Kept: by an index, since after `get_mut` nothing is known of the rows.
-    for n in numbers {
-        let n = n as usize;
-        if n < rows.len() {
-            rows[n] = change(rows[n]);
-        }
     }
 }
