@@ -5,6 +5,7 @@ use crate::track::Tracks;
 use std::marker::PhantomData;
 
 /// A log of entries `E` above a store `S` of its own.
+// Kept: seen by `log_state` and no Model, since a view over the state of `S` would ask its bound of each struct that holds a log.
 #[derive(Drop)]
 pub struct Log<S, E> {
     pub(crate) store: S,

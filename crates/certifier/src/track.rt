@@ -10,6 +10,7 @@ use std::marker::Model;
 use store::ConsoleId;
 
 /// What is kept of an open transaction: the versions that it noted, and the records that it wrote.
+// Kept: no Model, since a view that forgets the unused places has no inverse, which Copy needs.
 #[derive(Clone, Copy)]
 pub struct Track {
     pub(crate) noted: Few<u32, 64>,

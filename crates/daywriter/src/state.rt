@@ -16,6 +16,7 @@ pub struct Progress {
 }
 
 /// A file under writing, in a lent buffer: it takes entries.
+// Kept: no Model, since the clauses name the loan of the buffer, which a Model would hide.
 #[derive(Drop)]
 pub struct OpenFile<'a> {
     pub(crate) buf: &'a mut [u8],

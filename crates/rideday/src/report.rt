@@ -31,6 +31,7 @@ impl fmt::Display for Name {
 }
 
 // Prints commit stamps on one line.
+// Kept: three lines, in a program that has no crate in common with the others that print numbers.
 fn stamps(rt: HostRuntime, what: &str, stamps: &[u32]) -> io::Result<()> {
     print!(rt; "{what} by rank:")?;
     for stamp in stamps {

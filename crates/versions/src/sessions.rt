@@ -9,6 +9,7 @@ use crate::session::{Hold, Session};
 mod calls;
 mod fresh;
 
+// Kept: no Model; a clause reads the consoles or the number of records, and in a record of both it would read the same two.
 #[derive(Drop)]
 pub(crate) struct Sessions<E> {
     count: usize,

@@ -8,6 +8,7 @@ mod calls;
 mod fresh;
 
 // Kept: one arena of places with links and a stack of the free ones, since all memory is taken at opening.
+// Kept: no Model; a clause reads the chains, the room or the first entry, and in a record of all it would read the same three.
 #[derive(Drop)]
 pub(crate) struct Table<E> {
     first: E,
