@@ -7,6 +7,7 @@ pub mod Answers
 pub mod Printing
 pub mod Outputs
 -- what the code has still to do, as it goes through a line, a sheet and its logs
+pub mod Tokens
 pub mod Walks
 pub mod Stretches
 pub mod Endings

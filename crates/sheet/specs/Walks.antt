@@ -2,9 +2,10 @@
 use Rattle.std.specs.Prelude.{◌≡◌, ℕ, ◌-◌, List, [], length, Some, None, Option}
 use Rattle.std.specs.Borrow.{Bor}
 use Rattle.std.specs.Iterator.{YieldsFirstBy}
-use Rattle.sheet.specs.declared.line.Word.{Word}
 use Rattle.sheet.specs.declared.line.Words.{Words}
+use Rattle.sheet.specs.declared.token.Token.{Token}
 use Rattle.sheet.specs.Cuts.{Placed, placed, pieces, behind}
+use Rattle.sheet.specs.Tokens.{word_of}
 
 -- the words in what is left of a line whose end is before column e
 abbrev pub words_left : ℕ → Option (Bor (List ℕ)) → Placed
@@ -15,12 +16,8 @@ words_left e (Some r) = placed (e - length r.now) (pieces 32 r.now)
 abbrev pub to_come : Words → Placed
 to_come w = words_left w.end w.rest
 
--- a word with its column
-abbrev pub word_of : Word → List ℕ × ℕ
-word_of w = (w.bytes.now, w.column)
-
 -- a call of `next` gives the first of the words to come and leaves those behind it, and the line ends where it did
-abbrev pub Gives : Words → Option Word → Words → Type 0
+abbrev pub Gives : Words → Option Token → Words → Type 0
 Gives s r t = YieldsFirstBy word_of to_come s r t × (t.end ≡ s.end)
 
 -- the words behind the first are left, and the line ends where it did

@@ -19,6 +19,7 @@ mod play;
 mod print;
 mod request;
 mod response;
+mod token;
 
 /// A sheet of more bytes is not read.
 pub const LIMIT: usize = 32768;

@@ -4,13 +4,6 @@ ghost use Rattle.std.specs.Option.{ForSome};
 
 mod walk;
 
-/// A word of a line, with its column.
-#[derive(Clone, Copy)]
-pub(crate) struct Word<'a> {
-    pub(crate) bytes: &'a [u8],
-    pub(crate) column: usize,
-}
-
 /// The words of a line that are to come: what is left of the line, and the column past its end.
 #[derive(Clone, Copy)]
 pub(crate) struct Words<'a> {

@@ -2,8 +2,8 @@
 ghost use Rattle.std.specs.Prelude.{◌≡◌};
 ghost use Rattle.sheet.specs.Numerals.{all_digits, spare_zero, numeral};
 
-// Whether a word has digits alone.
-fn all_digits(bytes: &[u8]) -> bool
+/// Whether a word has digits alone.
+pub(crate) fn all_digits(bytes: &[u8]) -> bool
     ensures { result ≡ all_digits bytes.now }
 {
     bytes.iter().all(u8::is_ascii_digit)

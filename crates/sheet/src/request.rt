@@ -72,7 +72,7 @@ impl<'a> Words<'a> {
         ensures passed { Passed self.old self.new }
     {
         let word = self.next().ok_or(Fault::WrongWord(self.end))?;
-        verb_in(word.bytes).ok_or(Fault::WrongWord(word.column))
+        verb_in(word.bytes()).ok_or(Fault::WrongWord(word.column()))
     }
 
     // The number that is wanted next.
@@ -81,10 +81,10 @@ impl<'a> Words<'a> {
         ensures passed { Passed self.old self.new }
     {
         let word = self.next().ok_or(Fault::WrongNumber(self.end))?;
-        if word.bytes.is_empty() {
-            return Err(Fault::WrongWord(word.column));
+        if word.bytes().is_empty() {
+            return Err(Fault::WrongWord(word.column()));
         }
-        number(word.bytes).ok_or(Fault::WrongNumber(word.column))
+        number(word.bytes()).ok_or(Fault::WrongNumber(word.column()))
     }
 
     // The kind that an `open` may end in: one so far.
@@ -93,7 +93,7 @@ impl<'a> Words<'a> {
         ensures passed { Passed self.old self.new }
     {
         match self.next() {
-            Some(word) => kind_in(word.bytes).ok_or(Fault::WrongWord(word.column)),
+            Some(word) => kind_in(word.bytes()).ok_or(Fault::WrongWord(word.column())),
             None => Ok(LogKind::Newest),
         }
     }
@@ -103,7 +103,7 @@ impl<'a> Words<'a> {
         ensures { told result ≡ end_at (to_come self.old) }
     {
         match self.next() {
-            Some(word) => Err(Fault::WrongWord(word.column)),
+            Some(word) => Err(Fault::WrongWord(word.column())),
             None => Ok(()),
         }
     }

@@ -4,7 +4,8 @@ ghost use Rattle.std.specs.Iterator.{item_count};
 ghost use Rattle.sheet.specs.Cuts.{words_of};
 ghost use Rattle.sheet.specs.Walks.{to_come, Gives};
 
-use super::{Word, Words};
+use super::Words;
+use crate::token::{Token, token_at};
 
 impl<'a> Words<'a> {
     /// All words of a line.
@@ -20,20 +21,17 @@ impl<'a> Words<'a> {
 }
 
 impl<'a> Iterator for Words<'a> {
-    type Item = Word<'a>;
+    type Item = Token<'a>;
 
     ghost next_gives = { Gives };
 
     ghost remaining = { item_count to_come };
 
-    fn next(&mut self) -> Option<Word<'a>> {
+    fn next(&mut self) -> Option<Token<'a>> {
         let rest = self.rest?;
         let column = self.end - rest.len();
         let cut = rest.iter().position(|b| *b == b' ').unwrap_or(rest.len());
         self.rest = rest.get(cut + 1..);
-        Some(Word {
-            bytes: &rest[..cut],
-            column,
-        })
+        Some(token_at(&rest[..cut], column))
     }
 }

@@ -1,4 +1,4 @@
-use Rattle.std.proofs.Common.{rules, ◌==◌, ap, ◌∙◌, refl}
+use Rattle.std.proofs.Common.{rules, ◌==◌, ◌∷◌, ap, ◌∙◌, sym, refl}
 use borrow.Author.Tests.{tests}
 use Rattle.std.proofs.lemmas.Iterator.{YieldsList-from_slice}
 use Rattle.std.proofs.lemmas.Iterator.Search.{position_from_yields_List}
@@ -15,7 +15,8 @@ returns-clause-steps c =
     let at = position_from_yields_List (λ b. b == 32) _ _ c.position.result c.position.ensures.ran (YieldsList-from_slice rest c.iter.ensures.rest) (λ x b q k. search (rules, tests)) in
     let is = c.branch-rest.ensures ∙ ap continue_value c.in_ok-rest.is in (
       ap (words_left s.end) is
-          ∙ first_word s.end rest c.unwrap_or-cut.result c.get-self.result (s.within c.in_ok-rest.rest is) (place_found (λ b. b == 32) rest c.position.result c.unwrap_or-cut.result at c.unwrap_or-cut.ensures) c.get-self.ensures.lookup.0,
+          ∙ first_word s.end rest c.unwrap_or-cut.result c.get-self.result (s.within c.in_ok-rest.rest is) (place_found (λ b. b == 32) rest c.position.result c.unwrap_or-cut.result at c.unwrap_or-cut.ensures) c.get-self.ensures.lookup.0
+          ∙ ap (λ w. w ∷ words_left s.end c.get-self.result) (sym c.token_at.ensures.word),
       refl,
     )
 
