@@ -1,4 +1,9 @@
 // What a line says: a call, and what it was answered.
+ghost use Rattle.std.specs.Prelude.{◌≡◌, Some};
+ghost use Rattle.store.specs.Refusals as store;
+ghost use Rattle.certifier.specs.Refusals as certifier;
+ghost use Rattle.edges.specs.declared.say.Said.TheVariants as said;
+
 use certifier::{Accepted, Call, Grant, LogRefusal, Mark};
 use std::{fmt, io};
 use store::{Code, OpenFault, Refusal, Seen, Version};
@@ -34,30 +39,40 @@ pub(crate) enum Said {
 }
 
 impl From<()> for Said {
+    ghost from_gives = { λ _ r. r ≡ said.Done };
+
     fn from(_done: ()) -> Said {
         Said::Done
     }
 }
 
 impl From<u16> for Said {
+    ghost from_gives = { λ n r. r ≡ said.Number n };
+
     fn from(number: u16) -> Said {
         Said::Number(u32::from(number))
     }
 }
 
 impl From<u32> for Said {
+    ghost from_gives = { λ n r. r ≡ said.Number n };
+
     fn from(number: u32) -> Said {
         Said::Number(number)
     }
 }
 
 impl From<Seen<u32>> for Said {
+    ghost from_gives = { λ x r. r ≡ said.Seen x };
+
     fn from(seen: Seen<u32>) -> Said {
         Said::Seen(seen)
     }
 }
 
 impl From<Mark> for Said {
+    ghost from_gives = { λ m r. r ≡ said.Marked m };
+
     fn from(mark: Mark) -> Said {
         Said::Marked(mark)
     }
@@ -109,18 +124,24 @@ pub(crate) struct Fault(Option<Code>);
 
 // Kept: an impl for each refusal, since a macro of the repository may write none.
 impl From<Refusal> for Fault {
+    ghost from_gives = { λ x r. r.0 ≡ Some (store.code_of x) };
+
     fn from(refusal: Refusal) -> Fault {
         Fault(Some(refusal.code()))
     }
 }
 
 impl From<LogRefusal> for Fault {
+    ghost from_gives = { λ x r. r.0 ≡ Some (certifier.code_of x) };
+
     fn from(refusal: LogRefusal) -> Fault {
         Fault(Some(refusal.code()))
     }
 }
 
 impl From<OpenFault> for Fault {
+    ghost from_gives = { λ x r. r.0 ≡ store.open_code x };
+
     fn from(fault: OpenFault) -> Fault {
         Fault(fault.code())
     }
