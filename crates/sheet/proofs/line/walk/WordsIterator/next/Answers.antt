@@ -16,7 +16,7 @@ returns-clause-steps c =
     let at = position_from_yields_List (λ b. b == 32) _ _ c.position.result c.position.ensures.ran (YieldsList-from_slice rest c.iter.ensures.rest) (λ x b q k. search (rules, tests)) in
     let is = c.branch-rest.ensures ∙ ap continue_value c.in_ok-rest.is in
     let left = ap (words_left s.end) is
-    ∙ first_word s.end rest c.unwrap_or-cut.result c.get-self.result (s.within c.in_ok-rest.rest is) (place_found (λ b. b == 32) rest c.position.result c.unwrap_or-cut.result at c.unwrap_or-cut.ensures) c.get-self.ensures.lookup.0 in
+    ∙ first_word s.end rest c.unwrap_or-cut.result _ c.get-self.result (s.within c.in_ok-rest.rest is) (place_found (λ b. b == 32) rest c.position.result c.unwrap_or-cut.result at c.unwrap_or-cut.ensures) c.get-self.ensures.lookup.0 (omega arith) in
     (grind (arith, common_steps), search rules, refl)
 
 pub returns-clause-goes : goal.returns-clause-goes
