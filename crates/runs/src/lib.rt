@@ -36,6 +36,7 @@ fn entry_for<E: Copy>(call: &Call<E>, answer: &Answer<E>, track: Track) -> Optio
 }
 
 // Adds what is kept of a call.
+// Kept: a push and no `extend`, which moves the whole track twice for every call that is no commit.
 fn keep<E: Copy>(
     entries: &mut Vec<DayEntry>,
     call: &Call<E>,
