@@ -1,7 +1,7 @@
 -- How the answers of the store lead to the steps of the log.
 use Rattle.std.proofs.lemmas.Grind.{common_steps}
 use Rattle.std.proofs.Common.{◌≡◌, ℕ, ◌<◌, ◌≤◌, Bool, true, false, cond, not, ◌&&◌, ltb, leb, List, [], ◌∷◌, map, length, get_or, set, is_some, Some, None, Option, sym, refl, ap, ◌∙◌, arith}
-use Rattle.std.proofs.lemmas.Bool.{cond-true, cond-false}
+use Rattle.std.proofs.lemmas.Bool.{ltb-true, cond-true, cond-false}
 use Rattle.std.proofs.Math.Bool.{and-false}
 use Rattle.std.proofs.lemmas.List.{map-set, get_or-map, set-get_or}
 use Rattle.store.specs.declared.Code.{Code}
@@ -61,7 +61,7 @@ module _ {E : Type 0} where
 
   module _ (rules : Rules) (s : LogState E) (k r : ℕ) where
     -- a write that is not to a 17th record is the store's
-    write_is : (e : E) → full s k r ≡ false → writing s k r (store.write_of rules s.store k r e) ≡ write_step rules s k r e
+    pub write_is : (e : E) → (k < 16 → full s k r ≡ false) → writing s k r (store.write_of rules s.store k r e) ≡ write_step rules s k r e
     write_is e h = go (ltb k 16) refl (store.console_at s.store k) refl (ltb r (length s.store.chains)) refl
       where
         go : (b : Bool) → ltb k 16 ≡ b → (o : Option (Console E)) → store.console_at s.store k ≡ o → (d : Bool) → ltb r (length s.store.chains) ≡ d
@@ -70,17 +70,17 @@ module _ {E : Type 0} where
         go true l None q d f = rw (l, q)
         go true l (Some c) q false f = rw (l, q, f)
         go true l (Some c) q true f =
-            sym (cond-false (full s k r) _ _ h) ∙ (sym (cond-true (ltb r (length s.store.chains)) _ _ f)
+            sym (cond-false (full s k r) _ _ (h (ltb-true k 16 l))) ∙ (sym (cond-true (ltb r (length s.store.chains)) _ _ f)
             ∙ (sym (cond-true (is_open s k) _ _ (ap is_some q)) ∙ sym (cond-true (ltb k 16) _ _ l)))
 
-    pub write_ok : (e : E) (n : ℕ) (st : State E) (ts : List Track) → full s k r ≡ false → (gives n, st) ≡ store.write_of rules s.store k r e
+    pub write_ok : (e : E) (n : ℕ) (st : State E) (ts : List Track) → (k < 16 → full s k r ≡ false) → (gives n, st) ≡ store.write_of rules s.store k r e
         → ts ≡ set s.tracks k (written (track_at s k) r n)
         → ◌≡◌ {A = Reply E × LogState E} (overwrites n, record { store = st; places = s.places; marks = s.marks; tracks = ts; ranks = s.ranks }) (write_step rules s k r e)
     write_ok e n st ts h a t =
         let f : List Track → Reply E × LogState E = λ u. (overwrites n, record { store = st; places = s.places; marks = s.marks; tracks = u; ranks = s.ranks }) in
         ap f t ∙ (ap (writing s k r) a ∙ write_is e h)
 
-    pub write_refused : (e : E) (c : Code) (st : State E) → full s k r ≡ false → (refuses c, st) ≡ store.write_of rules s.store k r e
+    pub write_refused : (e : E) (c : Code) (st : State E) → (k < 16 → full s k r ≡ false) → (refuses c, st) ≡ store.write_of rules s.store k r e
         → ◌≡◌ {A = Reply E × LogState E} (refused (passed c), record { store = st; places = s.places; marks = s.marks; tracks = s.tracks; ranks = s.ranks }) (write_step rules s k r e)
     write_refused e c st h a =
         let same = refused_same s.store st c (store.write_answer rules s.store k r) _ a in

@@ -54,7 +54,8 @@ module _ {E : Type 0} where
   -- of any call
   abbrev pub accepted_reply : Accepted E → Reply E
   accepted_reply (accepted.Begun b) = begun b
-  accepted_reply (accepted.Seen x) = seen_reply x
+  accepted_reply (accepted.Own e) = own e
+  accepted_reply (accepted.Saw v) = saw v
   accepted_reply (accepted.Overwrites n) = overwrites n
   accepted_reply (accepted.Granted g) = granted g
   accepted_reply accepted.Dropped = dropped

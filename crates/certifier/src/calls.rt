@@ -1,4 +1,4 @@
-// The calls of a log. The store runs its own checks first, and its refusals are passed up.
+// The calls of a log. A console above 15 is refused here; the other checks of the store run there, and its refusals are passed up.
 ghost use Rattle.std.specs.Prelude.{◌≡◌};
 ghost use Rattle.store.specs.Refusals as store;
 ghost use Rattle.certifier.specs.Refusals.{code_of, passed};
@@ -102,7 +102,10 @@ impl<S: Store<E>, E: Copy> Log<S, E> {
     {
         Ok(match call {
             Call::Begin(console) => Accepted::Begun(self.begin(console)?),
-            Call::Read(console, at) => Accepted::Seen(self.read(console, at)?),
+            Call::Read(console, at) => match self.read(console, at)? {
+                Seen::Own(entry) => Accepted::Own(entry),
+                Seen::Committed(version) => Accepted::Saw(version),
+            },
             Call::Write(console, at, entry) => {
                 Accepted::Overwrites(self.write(console, at, entry)?)
             }

@@ -5,7 +5,7 @@ ghost use Rattle.std.specs.Prelude.{◌≡◌};
 ghost use Rattle.certifier.specs.Refusals.{code_of};
 ghost use Rattle.certifier.specs.Marking.{new_mark};
 
-use store::{Code, Layer, Refusal, Seen};
+use store::{Code, Layer, Refusal, Version};
 
 mod calls;
 mod entry;
@@ -89,12 +89,15 @@ pub enum Call<E> {
 }
 
 /// What an accepted call answers.
+// Kept: the two cases of a read side by side and no `Seen` within, whose tag of its own makes every answer longer.
 #[derive(Clone, Copy)]
 pub enum Accepted<E> {
     /// the begin stamp
     Begun(u16),
-    /// what the read saw
-    Seen(Seen<E>),
+    /// the console's own pending entry
+    Own(E),
+    /// a committed version
+    Saw(Version<E>),
     /// the number of the version that the write will overwrite
     Overwrites(u32),
     Granted(Grant),

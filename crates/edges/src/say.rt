@@ -82,7 +82,8 @@ impl From<Accepted<u32>> for Said {
     fn from(accepted: Accepted<u32>) -> Said {
         match accepted {
             Accepted::Begun(stamp) => stamp.into(),
-            Accepted::Seen(seen) => seen.into(),
+            Accepted::Own(entry) => Seen::Own(entry).into(),
+            Accepted::Saw(version) => Seen::Committed(version).into(),
             Accepted::Overwrites(number) => number.into(),
             Accepted::Granted(grant) => Said::Granted(grant),
             Accepted::Dropped => Said::Done,

@@ -3,8 +3,7 @@ use crate::job::{Job, TRAINS, Task};
 use anyhow::anyhow;
 use certifier::{Accepted, Log, LogRefusal};
 use dice::Dice;
-use std::alloc::{AllocError, Global};
-use std::collections::BTreeMap;
+use std::alloc::Global;
 use store::{PLACES, Seen, Store};
 
 /// The jobs of a day.
@@ -30,7 +29,8 @@ pub(crate) struct Day<S> {
     pub(crate) cycles: [u32; TRAINS as usize],
     pub(crate) granted: u32,
     /// the refusals by their number
-    pub(crate) refused: BTreeMap<u32, Refused>,
+    // Kept: an array and no map, which would take memory in mid-day, where the day could end for want of it.
+    pub(crate) refused: [Option<Refused>; 16],
 }
 
 /// The count that a read shows.
@@ -51,19 +51,18 @@ impl<S: Store<u32>> Day<S> {
             waiting: JOBS,
             cycles: [0; TRAINS as usize],
             granted: 0,
-            refused: BTreeMap::new(heap),
+            refused: [None; 16],
         })
     }
 
     /// A console makes the next call of its job, or takes a job where it has none.
-    pub(crate) fn turn(&mut self) -> Result<(), AllocError> {
+    pub(crate) fn turn(&mut self) {
         let console = self.dice.below(16);
         let place = console as usize;
         self.tasks[place] = match self.tasks[place] {
-            Some(task) => self.work(console, task)?,
+            Some(task) => self.work(console, task),
             None => self.take(),
         };
-        Ok(())
     }
 
     // The next job, while there is one.
@@ -73,14 +72,14 @@ impl<S: Store<u32>> Day<S> {
     }
 
     // Makes the task's call. A refused task begins again.
-    fn work(&mut self, console: u32, task: Task) -> Result<Option<Task>, AllocError> {
+    fn work(&mut self, console: u32, task: Task) -> Option<Task> {
         match self.log.call(task.call(console)) {
-            Ok(accepted) => Ok(self.go_on(task, accepted)),
+            Ok(accepted) => self.go_on(task, accepted),
             Err(refusal) => {
-                self.refuse(refusal)?;
+                self.refuse(refusal);
                 // The log has dropped an unsafe transaction already, and then says that nothing is open.
                 let _ = self.log.drop(console);
-                Ok(Some(Task::new(task.job)))
+                Some(Task::new(task.job))
             }
         }
     }
@@ -90,7 +89,8 @@ impl<S: Store<u32>> Day<S> {
     // low mark.
     fn go_on(&mut self, task: Task, accepted: Accepted<u32>) -> Option<Task> {
         match accepted {
-            Accepted::Seen(seen) => Some(task.read(count_of(seen))),
+            Accepted::Own(count) => Some(task.read(count)),
+            Accepted::Saw(version) => Some(task.read(version.entry)),
             Accepted::Granted(_) => {
                 self.book(&task);
                 None
@@ -101,11 +101,13 @@ impl<S: Store<u32>> Day<S> {
         }
     }
 
-    fn refuse(&mut self, refusal: LogRefusal) -> Result<(), AllocError> {
-        let first = Refused { refusal, times: 0 };
-        let refused = self.refused.entry(refusal.code().number)?.or_insert(first);
-        refused.times = refused.times.wrapping_add(1);
-        Ok(())
+    fn refuse(&mut self, refusal: LogRefusal) {
+        let number = refusal.code().number as usize;
+        if number < 16 {
+            let before = self.refused[number].map_or(0, |refused| refused.times);
+            let times = before.wrapping_add(1);
+            self.refused[number] = Some(Refused { refusal, times });
+        }
     }
 
     fn add(&mut self, train: u32, cycles: u32) {

@@ -59,9 +59,11 @@ impl<S: Store<u32>> Day<S> {
 
     /// The refusals that came, by number and name.
     pub(crate) fn refusals(&self, rt: HostRuntime) -> io::Result<()> {
-        for (number, Refused { refusal, times }) in &self.refused {
-            let name = Name(*refusal);
-            println!(rt; "refused {number} {name}: {times} times")?;
+        for (number, refused) in self.refused.iter().enumerate() {
+            if let Some(Refused { refusal, times }) = refused {
+                let name = Name(*refusal);
+                println!(rt; "refused {number} {name}: {times} times")?;
+            }
         }
         Ok(())
     }

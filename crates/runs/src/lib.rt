@@ -1,7 +1,7 @@
 // Whole runs: a log is opened, and a list of calls is played on it.
 #![tactic(auto)]
 
-ghost use Rattle.std.specs.Prelude.{◌≡◌, map, IfOk};
+ghost use Rattle.std.specs.Prelude.{◌≡◌, ◌++◌, map, IfOk, OnOk};
 ghost use Rattle.std.specs.Option.{option_to_list};
 ghost use Rattle.certifier.specs.Entries.{track_of, entry_by};
 ghost use Rattle.certifier.specs.Logs.{log_state, reply_of};
@@ -35,6 +35,22 @@ fn entry_for<E: Copy>(call: &Call<E>, answer: &Answer<E>, track: Track) -> Optio
     }
 }
 
+// Adds what is kept of a call.
+// Kept: a push and no `extend`, which moves the whole track twice for every call that is no commit.
+fn keep<E: Copy>(
+    entries: &mut Vec<DayEntry>,
+    call: &Call<E>,
+    answer: &Answer<E>,
+    track: Track,
+) -> Result<(), AllocError>
+    ensures { OnOk result (map entry_by entries.new.items ≡ map entry_by entries.old.items ++ entry_for call.now (reply_of answer.now) (track_of track)) }
+{
+    if let Some(entry) = entry_for(call, answer, track) {
+        entries.push(entry)?;
+    }
+    Ok(())
+}
+
 // The track of the transaction that a call asks to commit. A console above 15 is given some track: the log refuses it.
 // Kept: a track and no Option, since its definition says which track a call finds, for any call and any console.
 fn track_for<S: Store<E>, E: Copy>(log: &Log<S, E>, call: &Call<E>) -> Track
@@ -59,7 +75,7 @@ fn play<S: Store<E>, E: Copy>(
     for call in calls {
         let track = track_for(&log, call);
         let answer = log.call(*call);
-        entries.extend(entry_for(call, &answer, track))?;
+        keep(&mut entries, call, &answer, track)?;
         answers.push(answer)?;
     }
     Ok(Outcome {

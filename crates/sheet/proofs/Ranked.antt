@@ -1,21 +1,11 @@
 -- The stamps that a log puts into a list that is long enough.
 use Rattle.std.proofs.Common.{◌≡◌, ℕ, ◌≤◌, cond, List, ◌++◌, length, take, drop, ap, ◌∙◌, le-ltb}
 use Rattle.std.proofs.lemmas.List.{take_at}
-use Rattle.store.specs.declared.Code.{Code}
 use Rattle.store.specs.Refusals.{Answer}
 use Rattle.store.specs.Refusals.Answer.{gives, refuses}
 use Rattle.certifier.specs.Meaning.{LogState, order_of}
 use Rattle.certifier.specs.Refusals.{short_list}
 use Rattle.sheet.specs.Printing.{stamps_by_rank}
-
--- such a list is not refused
-pub order_given : (s : LogState ℕ) (before list : List ℕ) (c : Code) → ◌≡◌ {A = Answer ℕ × List ℕ} (refuses c, list) (order_of s before) → s.ranks.count ≤ length before → ⊥
-order_given s before list c e fits =
-    let count = s.ranks.count in
-    let told : ◌≡◌ {A = Answer ℕ × List ℕ} (refuses c, list) (gives count, stamps_by_rank s ++ drop count before) =
-    e ∙ ap (λ t. cond {A = Answer ℕ × List ℕ} t (refuses short_list, before) (gives count, stamps_by_rank s ++ drop count before)) (le-ltb (length before) count fits) in
-    let answers : ◌≡◌ {A = Answer ℕ} (refuses c) (gives count) = ap (λ p. p.0) told in
-    cc
 
 pub order_stamps : (s : LogState ℕ) (before list : List ℕ) (n : ℕ) → ◌≡◌ {A = Answer ℕ × List ℕ} (gives n, list) (order_of s before) → s.ranks.count ≤ length before
     → length (stamps_by_rank s) ≡ s.ranks.count → take n list ≡ stamps_by_rank s

@@ -29,5 +29,6 @@ pub(crate) fn read_lines(heap: Global, sheet: &[u8]) -> Result<Vec<Item>, AllocE
     let Some(text) = text_of(sheet) else {
         return Ok(Vec::new(heap));
     };
-    text.split(|b| *b == b'\n').map(request_in).collect(heap)
+    let lines = text.split(|b| *b == b'\n');
+    lines.map(request_in).collect(heap)
 }

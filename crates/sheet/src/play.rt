@@ -82,12 +82,12 @@ fn add_responses(
 fn stamps_of<S: Store<u32>>(heap: Global, log: &Log<S, u32>) -> Result<Vec<u32>, AllocError>
     ensures { IfOk result (λ v. v.items ≡ stamps_by_rank (log_state S.Store.state log.now)) }
 {
-    let mut stamps = vec![in heap; 0; usize::from(DAY)]?;
-    let Ok(count) = log.order(stamps.as_mut_slice()) else {
-        unreachable()
-    };
-    stamps.truncate(usize::from(count));
-    Ok(stamps)
+    // Kept: an array for the order, so that the heap holds no more stamps than there are, and none where there are none.
+    let mut list = [0; DAY as usize];
+    match log.order(&mut list) {
+        Ok(count) => Vec::from_slice(heap, &list[0..usize::from(count)]),
+        Err(_) => unreachable(),
+    }
 }
 
 // Opens the log of a stretch above a store, plays its lines on it, and adds what the open and they are answered. An

@@ -8,7 +8,7 @@ ghost use Rattle.sheet.specs.Printing.{success_text};
 use crate::fault::Fault;
 use certifier::{Accepted, Answer, Grant};
 use std::fmt;
-use store::{Seen, Version};
+use store::Version;
 
 /// What a line prints that is not refused.
 #[derive(Clone, Copy)]
@@ -48,8 +48,8 @@ impl From<Accepted<u32>> for Success {
     fn from(accepted: Accepted<u32>) -> Success {
         match accepted {
             Accepted::Begun(stamp) => Success::One(u32::from(stamp)),
-            Accepted::Seen(Seen::Own(entry)) => Success::Own(entry),
-            Accepted::Seen(Seen::Committed(version)) => Success::Version(version),
+            Accepted::Own(entry) => Success::Own(entry),
+            Accepted::Saw(version) => Success::Version(version),
             Accepted::Overwrites(version) => Success::One(version),
             Accepted::Granted(grant) => Success::Granted(grant),
             Accepted::Dropped => Success::Done,

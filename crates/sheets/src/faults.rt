@@ -53,10 +53,9 @@ fn every_byte(rt: HostRuntime) -> anyhow::Result<()> {
 }
 
 // One line of so many bytes.
-fn long_line(rt: HostRuntime, bytes: usize) -> anyhow::Result<()> {
-    let name = format!(in rt.alloc(); "{bytes} bytes")?;
+fn long_line(rt: HostRuntime, name: &str, bytes: usize) -> anyhow::Result<()> {
     let sheet = vec![in rt.alloc(); b'a'; bytes]?;
-    show(rt, name.as_str(), sheet.as_slice())
+    show(rt, name, sheet.as_slice())
 }
 
 /// Shows the edges of the format.
@@ -65,6 +64,6 @@ pub(crate) fn show_all(rt: HostRuntime) -> anyhow::Result<()> {
         show(rt, name, sheet.as_bytes())?;
     }
     every_byte(rt)?;
-    long_line(rt, LIMIT)?;
-    long_line(rt, LIMIT + 1)
+    long_line(rt, "32768 bytes", LIMIT)?;
+    long_line(rt, "32769 bytes", LIMIT + 1)
 }

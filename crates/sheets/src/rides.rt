@@ -1,28 +1,34 @@
 // The rules of the store and of the certifier at work, on either kind.
 use crate::show;
 
-// By their names: the numbers with which a log is opened, and the calls. Commits that would close a cycle, and one that
-// is refused without.
-const ON_BOTH_KINDS: [(&str, &str, &str); 3] = [
+// Sheets by their names: commits that would close a cycle, and one that is refused without, on both kinds; commits that
+// are granted, with their ranks; and what the store refuses.
+// Kept: each is written out, since formatting one takes memory.
+const SHEETS: [(&str, &str); 17] = [
     (
-        "write skew",
-        "2 8",
-        "begin 0\nbegin 1\nread 0 0\nread 0 1\nread 1 0\nread 1 1\nwrite 0 0 5\nwrite 1 1 7\ncommit 0\ncommit 1\n",
+        "write skew, newest",
+        "open 2 8 newest\nbegin 0\nbegin 1\nread 0 0\nread 0 1\nread 1 0\nread 1 1\nwrite 0 0 5\nwrite 1 1 7\ncommit 0\ncommit 1\n",
     ),
     (
-        "a commit between two reads",
-        "1 4",
-        "begin 0\nread 0 0\nbegin 1\nwrite 1 0 5\ncommit 1\nread 0 0\ncommit 0\n",
+        "write skew, snapshot",
+        "open 2 8 snapshot\nbegin 0\nbegin 1\nread 0 0\nread 0 1\nread 1 0\nread 1 1\nwrite 0 0 5\nwrite 1 1 7\ncommit 0\ncommit 1\n",
     ),
     (
-        "false alarm",
-        "2 8",
-        "begin 0\nread 0 0\nbegin 1\nwrite 1 0 5\ncommit 1\nbegin 1\nwrite 1 1 7\ncommit 1\nread 0 1\ncommit 0\n",
+        "a commit between two reads, newest",
+        "open 1 4 newest\nbegin 0\nread 0 0\nbegin 1\nwrite 1 0 5\ncommit 1\nread 0 0\ncommit 0\n",
     ),
-];
-
-// Sheets by their names: commits that are granted, with their ranks, and what the store refuses.
-const SHEETS: [(&str, &str); 11] = [
+    (
+        "a commit between two reads, snapshot",
+        "open 1 4 snapshot\nbegin 0\nread 0 0\nbegin 1\nwrite 1 0 5\ncommit 1\nread 0 0\ncommit 0\n",
+    ),
+    (
+        "false alarm, newest",
+        "open 2 8 newest\nbegin 0\nread 0 0\nbegin 1\nwrite 1 0 5\ncommit 1\nbegin 1\nwrite 1 1 7\ncommit 1\nread 0 1\ncommit 0\n",
+    ),
+    (
+        "false alarm, snapshot",
+        "open 2 8 snapshot\nbegin 0\nread 0 0\nbegin 1\nwrite 1 0 5\ncommit 1\nbegin 1\nwrite 1 1 7\ncommit 1\nread 0 1\ncommit 0\n",
+    ),
     (
         "late reader",
         "open 1 4\nbegin 0\nread 0 0\nbegin 1\nwrite 1 0 5\ncommit 1\ncommit 0\n",
@@ -66,21 +72,8 @@ const SHEETS: [(&str, &str); 11] = [
     ),
 ];
 
-// Shows the calls on a log of each kind.
-fn on_both_kinds(rt: HostRuntime, title: &str, numbers: &str, calls: &str) -> anyhow::Result<()> {
-    for kind in ["newest", "snapshot"] {
-        let name = format!(in rt.alloc(); "{title}, {kind}")?;
-        let sheet = format!(in rt.alloc(); "open {numbers} {kind}\n{calls}")?;
-        show(rt, name.as_str(), sheet.as_bytes())?;
-    }
-    Ok(())
-}
-
 /// Shows the rules at work.
 pub(crate) fn show_all(rt: HostRuntime) -> anyhow::Result<()> {
-    for (title, numbers, calls) in &ON_BOTH_KINDS {
-        on_both_kinds(rt, title, numbers, calls)?;
-    }
     for (name, sheet) in &SHEETS {
         show(rt, name, sheet.as_bytes())?;
     }

@@ -28,10 +28,10 @@ room g c =
 pub returns-in_err-version : goal.returns-in_err-version
 returns-in_err-version g c =
     let p = err_from_is_err_and c.from_residual-in_err-version.result c.from_residual-in_err-version.ensures.1 in
-    rw (p.1, p.2) (write_refused g.S.Store.rules (log_state g.S.Store.state c.args.self.now) c.args.console c.args.at c.args.entry _ _ (room g (goal.at.returns-in_err-version g c).Joined-is_full) c.in_err-version.ensures)
+    rw (p.1, p.2) (write_refused g.S.Store.rules (log_state g.S.Store.state c.args.self.now) c.args.console c.args.at c.args.entry _ _ (λ _. room g (goal.at.returns-in_err-version g c).Joined-is_full) c.in_err-version.ensures)
 
 pub returns : goal.returns
 returns g c =
     let s = log_state g.S.Store.state c.args.self.now in
-    let ok = write_ok g.S.Store.rules s c.args.console c.args.at c.args.entry c.in_ok-version.version _ c.write-2.new.self (room g (goal.at.returns g c).Joined-is_full) c.in_ok-version.ensures in
+    let ok = write_ok g.S.Store.rules s c.args.console c.args.at c.args.entry c.in_ok-version.version _ c.write-2.new.self (λ _. room g (goal.at.returns g c).Joined-is_full) c.in_ok-version.ensures in
     search (rules, ok, c.in_ok-id.ensures.1)

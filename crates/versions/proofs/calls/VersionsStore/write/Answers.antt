@@ -1,4 +1,4 @@
-use Rattle.std.proofs.Common.{sym, ap, ◌∙◌, rules, arith}
+use Rattle.std.proofs.Common.{◌≡◌, sym, ap, ◌∙◌, rules, arith}
 use Rattle.std.proofs.lemmas.Grind.{common_steps}
 use Rattle.store.proofs.Pendings.{any_some, none_any}
 use Rattle.versions.specs.Sessions.{consoles_of}
@@ -12,7 +12,9 @@ returns-then-ne g c =
     let a = c.args.self.now.sessions in
     let h = c.in-Some.hold in
     let f = c.in-Some.ensures in
-    let own = not_there a c.args.at h.console.number h.place f.0 f.1 c.in_ok-console.console.number (different h.console.number c.in_ok-console.console.number (sym c.if-ne.true ∙ c.ne.ensures)) in
+    let test = different _ _ (sym c.if-ne.true ∙ c.ne.ensures) in
+    let other : h.console.number ≡ c.in_ok-console.console.number → ⊥ = omega arith in
+    let own = not_there a c.args.at h.console.number h.place f.0 f.1 c.in_ok-console.console.number other in
     let any = any_some (consoles_of a) c.args.at h.console.number (held_here a c.args.at h.console.number h.place f.0 f.1) in
     search rules
 
@@ -47,5 +49,6 @@ returns-else-ne g c =
     let h = c.in-Some.hold in
     let f = c.in-Some.ensures in
     let own = held_here c.args.self.now.sessions c.args.at h.console.number h.place f.0 f.1 in
-    let same = alike h.console.number c.in_ok-console.console.number (sym c.if-ne.false ∙ c.ne.ensures) in
+    let test = alike _ _ (sym c.if-ne.false ∙ c.ne.ensures) in
+    let same : h.console.number ≡ c.in_ok-console.console.number = omega arith in
     search rules
